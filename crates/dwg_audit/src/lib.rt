@@ -3,6 +3,7 @@
 
 mod auditing;
 mod claims;
+mod drawing_audit;
 mod finding;
 mod laws;
 mod lookups;
@@ -11,9 +12,8 @@ mod places;
 mod resolving;
 mod rules;
 mod tables;
-mod whole;
 
 pub use auditing::audit;
+pub use drawing_audit::audit_drawing;
 pub use finding::{Finding, Rule};
 pub use laws::{auditable_laws, finding_laws};
-pub use whole::audit_drawing;

@@ -4,6 +4,8 @@ pub mod Bytes
 pub mod Devices
 -- Devices in memory: what they hold, and what one call does.
 pub mod Memory
+-- A refusal as contracts see it: line, index and place.
+pub mod Refusal
 -- Why an input is refused: the first failing line of the table of refusals, with its place.
 pub mod Refusals
 -- The first item of a number in a list whose items have numbers.

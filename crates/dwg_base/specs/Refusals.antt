@@ -1,7 +1,7 @@
 -- Why an input is refused: the first failing line of the table of refusals, with its place. A rule of this project.
-use Rattle.std.specs.Prelude.{◌≡◌, ⊤, ℕ, ◌-◌, ◌≤◌, Bool, List, [], ◌∷◌, Option, Some, None, Result, Ok, Err, codes, nat_le, if◌then◌else◌, slice_index_or}
+use Rattle.std.specs.Prelude.{◌≡◌, ⊤, ℕ, ◌-◌, Bool, List, [], ◌∷◌, Option, Some, None, Result, Ok, Err, codes, nat_le, if◌then◌else◌, slice_index_or}
 use Rattle.std.specs.Option.{option_or}
-use Rattle.dwg_base.specs.declared.refusal.Refusal.{Refusal}
+use Rattle.dwg_base.specs.Refusal.{Refusal}
 use Rattle.dwg_base.specs.declared.refusal.Fault.{Fault}
 use Rattle.dwg_base.specs.declared.refusal.Fault.TheVariants.{NoMemory, Refused}
 
@@ -42,15 +42,6 @@ Answers (Err (Refused refusal)) tried = tried ≡ Err refusal
 abbrev pub IfRefused : Fault → (Refusal → Type 0) → Type 0
 IfRefused NoMemory Holds = ⊤
 IfRefused (Refused refusal) Holds = Holds refusal
-
--- the line of a refusal is one of the table's
-pub record IsOfTable (refusal : Refusal) : Type 0 where
-  pub least : 1 ≤ refusal.line
-  pub most : refusal.line ≤ 37
-
--- a refusal that a fault carries is by a line of the table
-abbrev pub IsFaultOfTable : Fault → Type 0
-IsFaultOfTable fault = IfRefused fault IsOfTable
 
 -- the part of the input that a line of the table speaks of: of a drawing, or the certificate before it
 unfoldable pub part_word_of : ℕ → List ℕ

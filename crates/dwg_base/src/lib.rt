@@ -9,6 +9,7 @@ mod items;
 mod lists;
 mod memory;
 mod refusal;
+pub mod refusal_lines;
 mod slices;
 mod version;
 

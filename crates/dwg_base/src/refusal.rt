@@ -5,7 +5,9 @@ ghost use Rattle.dwg_base.specs.declared.refusal.Fault.TheVariants.{NoMemory, Re
 ghost use Rattle.dwg_base.specs.Refusals.{part_word_of, reason_word_of};
 
 use crate::device::NoMemory;
+use crate::refusal_lines::words_of;
 use std::alloc::AllocFailed;
+use std::marker::Model;
 
 /// The first line of the table of refusals that fails.
 #[derive(Clone, Copy, Debug, PartialEq, Eq)]
@@ -16,6 +18,30 @@ pub struct Refusal {
     pub index: u64,
     /// The place in the input, in bytes from its begin; of a drawing after a certificate, from the drawing's begin.
     pub place: u64,
+}
+
+impl Model for Refusal {
+    ghost use Rattle.std.specs.Prelude.{◌≤◌};
+    ghost use Rattle.dwg_base.specs.Refusal.{Refusal};
+
+    ghost Value = { Refusal };
+
+    ghost view = { λ refusal. record { line = refusal.line; index = refusal.index; place = refusal.place } };
+
+    ghost invariant = { λ refusal. (1 ≤ refusal.line) × (refusal.line ≤ 37) };
+
+    ghost inverse = { λ refusal. record { line = refusal.line; index = refusal.index; place = refusal.place } };
+}
+
+impl Refusal {
+    /// The refusal by a line of the table.
+    pub fn new(line: u8, index: u64, place: u64) -> Refusal
+        requires least { 1 ≤ line }
+        requires most { line ≤ 37 }
+        ensures { result ≡ record { line = line; index = index; place = place } }
+    {
+        Refusal { line, index, place }
+    }
 }
 
 /// Why a part could not be read.
@@ -53,53 +79,19 @@ impl<T: Drop> From<AllocFailed<T>> for Fault {
 }
 
 /// The part of the input that a line of the table speaks of.
-#[tactic(auto, unfolding(crate::specs::Refusals::part_word_of))]
 pub fn part_word(line: u8) -> &'static str
     requires least { 1 ≤ line }
     requires most { line ≤ 37 }
     ensures { result.now ≡ part_word_of line }
 {
-    match line {
-        ..=8 => "header",
-        9..=13 => "variables",
-        14..=20 => "classes",
-        21..=26 => "map",
-        27..=32 => "objects",
-        33 => "sections",
-        _ => "certificate",
-    }
+    words_of(line).0
 }
 
 /// Why a line of the table refuses.
-#[tactic(auto, unfolding(crate::specs::Refusals::reason_word_of))]
 pub fn reason_word(line: u8) -> &'static str
     requires least { 1 ≤ line }
     requires most { line ≤ 37 }
     ensures { result.now ≡ reason_word_of line }
 {
-    match line {
-        1 | 4 | 9 | 14 | 21 | 33 => "short",
-        2 => "version",
-        3 => "count",
-        5 | 12 | 17 | 23 | 30 => "check",
-        6 => "sentinel",
-        7 => "repeated",
-        8 => "missing",
-        10 | 15 | 35 => "begin",
-        11 | 16 | 28 | 36 => "length",
-        13 | 18 => "end",
-        19 => "spelling",
-        20 => "number",
-        22 => "size",
-        24 => "pair",
-        25 => "null",
-        26 => "duplicate",
-        27 => "place",
-        29 => "overlap",
-        31 => "head",
-        32 => "handle",
-        34 => "short",
-        37 => "entry",
-        _ => unreachable!(),
-    }
+    words_of(line).1
 }

@@ -1,26 +1,36 @@
 -- What the checker looks up, by places.
-use Rattle.std.proofs.Common.{◌≡◌, refl, sym, ap, ◌∙◌, subst, ◌<◌, ◌+◌, ◌^◌, ℕ, suc, Bool, true, false, List, [], ◌∷◌, length, drop, get_or, Option, Some, None, arith}
+use Rattle.std.proofs.Common.{◌≡◌, refl, sym, ap, ◌∙◌, subst, ⊎_elim, ◌<◌, ◌+◌, ◌^◌, ℕ, zero, suc, Bool, true, false, List, [], ◌∷◌, length, drop, get_or, Option, Some, None, arith}
 use Rattle.dwg_base.specs.declared.device.NoMemory.{NoMemory}
 use Rattle.std.specs.Prelude.{◌↔◌, IfOk, IsTrue, Result, Ok, Err, ◌==◌, ◌&&◌, ◌||◌, ◌≤◌, not, if◌then◌else◌}
 use Rattle.std.specs.List.{list_all, slice_get}
-use Rattle.std.specs.Option.{option_and_then, option_map_or}
+use Rattle.std.specs.Option.{option_and_then, option_map, option_map_or}
+use Rattle.std.proofs.lemmas.Bool.{and_parts, cases_Bool}
 use Rattle.std.proofs.lemmas.List.{drop_all, drop_more}
 use Rattle.std.proofs.lemmas.List.Sums.{sum_by_more_le_part}
-use Rattle.std.proofs.lemmas.Option.{get_or_from_slice_get, slice_get_within}
-use Rattle.dwg_cert.specs.AcceptTests.{AcceptanceIsDecided, are_handles, is_accepted, is_in_place, is_placed, is_placed_in}
+use Rattle.std.proofs.lemmas.Option.{get_or_from_slice_get, same_Some, slice_get-map, slice_get_within}
+use Rattle.dwg_cert.proofs.Entries.{handles_are}
+use Rattle.dwg_cert.proofs.RightReported.{implied}
+use Rattle.dwg_cert.specs.AcceptTests.{AcceptanceIsDecided, are_handles, holds_together, is_accepted, is_begun, is_in_place, is_placed, is_placed_in, is_ranked, is_resolved, is_right}
 use Rattle.dwg_cert.specs.Accepts.{Accepts, entry_at, handles_in}
 use Rattle.dwg_cert.specs.Certified.{AcceptedIsSound}
-use Rattle.dwg_cert.specs.Checked.{CanBeChecked, Checked}
+use Rattle.dwg_cert.specs.Checked.{CanBeChecked, Checked, IsChecker, are_met, member_counts}
 use Rattle.dwg_cert.specs.declared.entry.Entry.{Entry}
-use Rattle.dwg_graph.specs.Claimed.{reference_count}
-use Rattle.dwg_graph.specs.Graph.{is_member, object_at}
+use Rattle.dwg_graph.specs.Claimed.{AreBothCounted, reference_count}
+use Rattle.dwg_graph.specs.Graph.{is_header, is_member, is_typed, object_at}
 use Rattle.dwg_graph.specs.Owners.{owner_of, spaces}
-use Rattle.dwg_graph.specs.Placed.{home_at, home_place, owner_place, place_in}
+use Rattle.dwg_graph.specs.Placed.{home_at, home_place, owner_place, owner_table, place_in}
 use Rattle.dwg_graph.specs.Places.{Ascend, handles_of}
 use Rattle.dwg_graph.specs.Sound.{IsSound}
+use Rattle.dwg_graph.specs.SlotLaws.{OwnersAreHeld}
 use Rattle.dwg_graph.specs.Slots.{slots}
-use Rattle.dwg_graph.proofs.PlacedObjects.{object_placed, placed_by_key}
-use Rattle.dwg_object.specs.Objects.{ObjectValue, handle_of}
+use Rattle.dwg_graph.specs.declared.claims.Claimed.{Claimed}
+use Rattle.dwg_graph.specs.declared.owner.SpaceHandles.{SpaceHandles}
+use Rattle.dwg_graph.specs.declared.slot.Slot.{Slot}
+use Rattle.dwg_graph.specs.Tests.{is_claimed, is_exempt, is_met}
+use Rattle.dwg_graph.proofs.PlacedObjects.{found_there, object_placed, placed_by_key}
+use Rattle.dwg_kinds.specs.Needs.{has_field}
+use Rattle.dwg_kinds.specs.declared.field.Field.TheVariants as fields
+use Rattle.dwg_object.specs.Objects.{ObjectValue, TypedValue, PlainValue, RawValue, handle_of, kind_of}
 
 -- the entry of a handle stands where the object does
 pub entry_placed : (objects : List ObjectValue) (cert : List Entry) (handle : ℕ) (place : Option ℕ) → handles_in cert ≡ handles_of objects → place ≡ place_in (handles_of objects) handle
@@ -81,6 +91,73 @@ all_further {A} test things i x whole stands passes so_far =
 pub all_fail : {A : Type 0} (test : A → Bool) (things : List A) (i : ℕ) (x : A) (whole : Bool) → slice_get things i ≡ Some x → test x ≡ false → list_all test (drop i things) ≡ whole → false ≡ whole
 all_fail {A} test things i x whole stands fails so_far =
     ap (λ (b : Bool). b && list_all test (drop (i + 1) things)) (sym fails) ∙ ap (list_all test) (sym (left_from things i x stands)) ∙ so_far
+
+-- what all of things pass, each does that stands at a place
+pub passes_there : {A : Type 0} (test : A → Bool) (things : List A) (place : ℕ) (x : A) → list_all test things ≡ true → slice_get things place ≡ Some x → test x ≡ true
+passes_there test [] place x all stands = absurd (cc stands)
+passes_there {A} test (first ∷ more) zero x all stands = subst (λ (y : A). test y ≡ true) (same_Some first x stands) (and_parts (test first) (list_all test more) all).0
+passes_there test (first ∷ more) (suc place) x all stands = passes_there test more place x (and_parts (test first) (list_all test more) all).1 stands
+
+-- where not all pass one test, not all pass another that implies it
+fails_by_weaker : {A : Type 0} (weak strong : A → Bool) (things : List A) → ((x : A) → strong x ≡ true → weak x ≡ true) → list_all weak things ≡ false → false ≡ list_all strong things
+fails_by_weaker weak strong [] implies fails = sym fails
+fails_by_weaker weak strong (x ∷ more) implies fails = go (fails_by_weaker weak strong more implies) (strong x) refl
+  where
+    go : (list_all weak more ≡ false → false ≡ list_all strong more) → (test : Bool) → strong x ≡ test → false ≡ (strong x && list_all strong more)
+    go further false is = ap (λ (b : Bool). b && list_all strong more) (sym is)
+    go further true is = further (sym (ap (λ (b : Bool). b && list_all weak more) (implies x is)) ∙ fails) ∙ ap (λ (b : Bool). b && list_all strong more) (sym is)
+
+-- what isn't Typed has no slots
+no_slots : (x : ObjectValue) → is_typed x ≡ false → slots x ≡ []
+unfolding slots
+no_slots (TypedValue number handle common body) other = absurd (cc other)
+no_slots (PlainValue number handle common rest refs) other = refl
+no_slots (RawValue number handle bytes) other = refl
+
+-- the slots of a resolved object meet their needs
+met_of_resolved : (objects : List ObjectValue) (x : ObjectValue) → is_resolved objects x ≡ true → are_met objects x ≡ true
+unfolding is_resolved are_met
+met_of_resolved objects x resolved =
+    let owner : Slot = record { field = fields.Owner; position = 0; target = owner_of (spaces objects) x } in (and_parts (is_met objects x owner) (list_all (is_met objects x) (slots x)) resolved).1
+
+-- so do those of an object without any
+met_without : (objects : List ObjectValue) (x : ObjectValue) → slots x ≡ [] → are_met objects x ≡ true
+unfolding are_met
+met_without objects x none = ap (list_all (is_met objects x)) none
+
+-- and those of an object whose references hold together
+met_together : (objects : List ObjectValue) (cert : List Entry) (x : ObjectValue) → holds_together objects cert x ≡ true → are_met objects x ≡ true
+unfolding holds_together
+met_together objects cert x held = ⊎_elim
+    (λ (typed : is_typed x ≡ true).
+    let claimed : Bool = is_exempt objects (spaces objects) x || is_claimed objects (spaces objects) x in
+    let begun : Bool = not (is_header x) || is_begun objects cert x in
+    met_of_resolved objects x (and_parts (is_resolved objects x) (claimed && begun) ((implied (is_typed x) (is_resolved objects x && (claimed && begun))).0 held typed)).0)
+    (λ (other : is_typed x ≡ false). met_without objects x (no_slots x other))
+    (cases_Bool (is_typed x))
+
+-- so do those of an object of which all is right
+met_of_right : (objects : List ObjectValue) (cert : List Entry) (x : ObjectValue) → is_right objects cert x ≡ true → are_met objects x ≡ true
+unfolding is_right
+met_of_right objects cert x right =
+    let others = and_parts (is_ranked objects cert x) (is_in_place objects cert x && holds_together objects cert x) right in
+    met_together objects cert x (and_parts (is_in_place objects cert x) (holds_together objects cert x) others.1).1
+
+-- where a slot doesn't meet its need, not all objects are right
+pub unmet_refused : (objects : List ObjectValue) (cert : List Entry) → list_all (are_met objects) objects ≡ false → false ≡ list_all (is_right objects cert) objects
+unmet_refused objects cert unmet = fails_by_weaker (are_met objects) (is_right objects cert) objects (met_of_right objects cert) unmet
+
+-- the kind of a Typed object has an owner
+pub owner_held : OwnersAreHeld → (x : ObjectValue) → IsTrue (is_typed x) → IsTrue (has_field fields.Owner (kind_of x))
+owner_held held (TypedValue number handle common body) typed = held number handle common body
+owner_held held (PlainValue number handle common rest refs) typed = absurd (cc typed)
+owner_held held (RawValue number handle bytes) typed = absurd (cc typed)
+
+-- the object at a place stands where its handle leads
+pub own_place : (objects : List ObjectValue) (place : ℕ) (x : ObjectValue) → Ascend (handles_of objects) → slice_get objects place ≡ Some x → Some place ≡ place_in (handles_of objects) (handle_of x)
+own_place objects place x ascend stands =
+    let handle : slice_get (handles_of objects) place ≡ Some (handle_of x) = slice_get-map handle_of objects place ∙ ap (option_map handle_of) stands in
+    sym (found_there (handles_of objects) (handle_of x) place ascend handle)
 
 -- the same in what the checker shows
 pub entry_seen : (now : Checked) (objects : List ObjectValue) (cert : List Entry) (handle : ℕ) (place : Option ℕ) (found : Option Entry) → now ≡ record { objects = objects; cert = cert } → handles_in cert ≡ handles_of objects
@@ -162,3 +239,18 @@ pub reported_sound : (objects : List ObjectValue) (cert : List Entry) (result : 
     → IfOk result (λ is. IsTrue is → IsSound objects)
 reported_sound objects cert (Ok is) sound ascend accepts = λ holds. sound objects cert ascend (accepts.0 holds)
 reported_sound objects cert (Err fault) sound ascend accepts = tt
+
+-- what is known of the objects of a drawing is what the checker of a certificate knows
+pub checker_holds : (drawing objects : List ObjectValue) (entries : List Entry) (known : Option SpaceHandles) (index : List ℕ) (owners : List (Option ℕ)) (counts : List ℕ) (claimed : Claimed) → objects ≡ drawing
+    → CanBeChecked drawing → IsTrue (are_handles entries drawing) → known ≡ spaces objects → index ≡ handles_of objects → owners ≡ owner_table drawing (spaces drawing) → counts ≡ member_counts objects
+    → AreBothCounted objects known claimed → IsTrue (list_all (are_met objects) objects) → IsChecker objects entries known index owners counts claimed
+checker_holds drawing objects entries known index owners counts claimed same can handles knows indexed owned members claims met = record {
+  can = subst (λ (all : List ObjectValue). CanBeChecked all) (sym same) can;
+  entries = subst (λ (all : List ObjectValue). handles_in entries ≡ handles_of all) (sym same) ((handles_are entries drawing).0 handles);
+  knows = knows;
+  handles = indexed;
+  owned = subst (λ (all : List ObjectValue). owners ≡ owner_table all (spaces all)) (sym same) owned;
+  members = members;
+  claims = subst (λ (those : Option SpaceHandles). AreBothCounted objects those claimed) knows claims;
+  met = met;
+}

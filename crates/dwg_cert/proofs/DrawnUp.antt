@@ -4,12 +4,18 @@ use Rattle.std.proofs.lemmas.Bool.{cases_Bool}
 use Rattle.std.proofs.lemmas.Bool.Decides.{Decides-eqb, nat_tests}
 use Rattle.std.proofs.lemmas.List.{length-map}
 use Rattle.std.proofs.lemmas.Option.{same_Some}
-use Rattle.std.specs.Prelude.{◌==◌, IfSome, IsTrue, Contains, nat_lt, if◌then◌else◌}
+use Rattle.std.specs.Prelude.{◌==◌, ◌↔◌, IfOk, IfSome, IsTrue, Contains, Result, Ok, Err, nat_lt, if◌then◌else◌}
 use Rattle.std.specs.List.{AllByRecursion, slice_get}
 use Rattle.std.specs.Option.{option_and_then, option_map, option_map_or}
+use Rattle.dwg_base.specs.declared.device.NoMemory.{NoMemory}
+use Rattle.dwg_cert.proofs.AcceptedOfSound.{sound_is_accepted}
 use Rattle.dwg_cert.proofs.ChainPlaces.{IsChainOf, chain_of_block, chain_is_found, found_at, one_is_that}
-use Rattle.dwg_cert.proofs.Entries.{map_or_decided, of_block, block_found}
+use Rattle.dwg_cert.proofs.Entries.{handles_are, map_or_decided, of_block, block_found}
 use Rattle.dwg_cert.proofs.Ranks.{way_of_rank}
+use Rattle.dwg_cert.proofs.Reported.{acceptance_is_reported}
+use Rattle.dwg_cert.proofs.SoundOfAccepted.{accepted_is_sound}
+use Rattle.dwg_cert.specs.AcceptTests.{are_handles, is_accepted}
+use Rattle.dwg_cert.specs.Accepts.{Accepts, handles_in}
 use Rattle.dwg_cert.specs.Certificates.{IsSmallEntry, HandlesAscend, IsCertificate}
 use Rattle.dwg_cert.specs.Certified.{rank_of, place_between, place_in_block, place_of, entry_of, certificate_of}
 use Rattle.dwg_cert.specs.Drawn.{steps_to, home_ends, is_last, steps_left, left_of, steps_between, drawn_place, drawn_entry, drawn}
@@ -22,8 +28,7 @@ use Rattle.dwg_graph.specs.Sound.{IsSound}
 use Rattle.dwg_graph.proofs.ObjectPaths.{step_to, stands_found}
 use Rattle.dwg_graph.proofs.PlacedPaths.{steps_closed}
 use Rattle.dwg_graph.proofs.Tests.{object_found, members_among}
-use Rattle.dwg_object.specs.declared.object.Object as declared
-use Rattle.dwg_object.specs.Objects.{ObjectValue, handle_of, value_of}
+use Rattle.dwg_object.specs.Objects.{ObjectValue, handle_of}
 use Rattle.dwg_chains.specs.Ways.{way}
 use Rattle.dwg_chains.proofs.ChainLaws.{straight_of_chain}
 use Rattle.dwg_chains.proofs.MemberLemmas.{contains_first, contains_after}
@@ -112,13 +117,20 @@ ascending_entries objects ascend i j d before within =
         handle_in (x ∷ xs) (suc k) inside = handle_in xs k (omega (arith, inside))
 
 -- the entries that are drawn up are a certificate
-pub drawn_is_certificate : (objects : List declared.Object) (entries : List Entry) → Ascend (handles_of (map value_of objects)) → length objects < 2 ^ 58 → entries ≡ drawn (map value_of objects) → IsCertificate entries
+pub drawn_is_certificate : (objects : List ObjectValue) (entries : List Entry) → Ascend (handles_of objects) → length objects < 2 ^ 58 → entries ≡ drawn objects → IsCertificate entries
 unfolding drawn
 drawn_is_certificate objects entries ascend few is =
-    let values : List ObjectValue = map value_of objects in
-    let count : length values ≡ length objects = length-map objects value_of in
     subst (λ (those : List Entry). IsCertificate those) (sym is)
-    (record { ascending = ascending_entries values ascend; small = all_mapped IsSmallEntry (drawn_entry values) values (λ x. small_entry values x (omega (arith, few, count))) })
+    (record { ascending = ascending_entries objects ascend; small = all_mapped IsSmallEntry (drawn_entry objects) objects (λ x. small_entry objects x few) })
+
+-- and their handles are those of the objects
+pub drawn_handles : (objects : List ObjectValue) (entries : List Entry) → entries ≡ drawn objects → IsTrue (are_handles entries objects)
+unfolding drawn
+drawn_handles objects entries is = subst (λ (those : List Entry). IsTrue (are_handles those objects)) (sym is) ((handles_are (map (drawn_entry objects) objects) objects).1 (handles_in_turn objects))
+  where
+    handles_in_turn : (xs : List ObjectValue) → handles_in (map (drawn_entry objects) xs) ≡ handles_of xs
+    handles_in_turn [] = refl
+    handles_in_turn (x ∷ xs) = ap (λ (handles : List ℕ). handle_of x ∷ handles) (handles_in_turn xs)
 
 -- a way is straight by another test that says the same of what stands on it
 straight_by : {A : Type 0} (step : A → Option A) (goal other : A → Bool) (x : A) (rest : List A) → ((y : A) → Contains (x ∷ rest) y → other y ≡ goal y) → IsStraight step goal x rest → IsStraight step other x rest
@@ -226,3 +238,13 @@ unfolding drawn certificate_of
 drawn_of_sound objects entries ascend is sound =
     is ∙ same_maps (drawn_entry objects) (entry_of objects) objects
     (λ x inside. ap (λ (place : Option ℕ). record { handle = handle_of x; rank = rank_of objects x; chain = place }) (places_of_sound objects x ascend sound inside))
+
+-- so it is accepted exactly where they are sound
+pub sound_reported : (objects : List ObjectValue) (entries : List Entry) (result : Result Bool NoMemory) → Ascend (handles_of objects) → entries ≡ drawn objects → IfOk result (λ is. is ≡ is_accepted objects entries)
+    → IfOk result (λ are. IsTrue are ↔ IsSound objects)
+sound_reported objects entries (Ok is) ascend same reported =
+    let decided = acceptance_is_reported objects entries ascend in (
+      λ holds. accepted_is_sound objects entries ascend (decided.0 (sym reported ∙ holds)),
+      λ sound. reported ∙ decided.1 (subst (λ (those : List Entry). Accepts objects those) (sym (drawn_of_sound objects entries ascend same sound)) (sound_is_accepted objects ascend sound)),
+    )
+sound_reported objects entries (Err fault) ascend same reported = tt

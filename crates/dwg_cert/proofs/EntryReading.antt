@@ -3,7 +3,7 @@ use Rattle.std.proofs.Common.{◌≡◌, refl, sym, ◌∙◌, ap, ap₂, ℕ, �
 use Rattle.std.specs.Prelude.{Ok, Err, map, find}
 use Rattle.std.specs.List.{range_with_len}
 use Rattle.std.proofs.lemmas.List.FromFn.{length-map-range_with_len, map-range_with_len_more}
-use Rattle.dwg_base.specs.declared.refusal.Refusal.{Refusal}
+use Rattle.dwg_base.specs.Refusal.{Refusal}
 use Rattle.dwg_cert.specs.declared.entry.Entry.{Entry}
 use Rattle.dwg_cert.specs.CertificateLines.{count_at, entry_stated_at, entry_fails, entry_refusal, entries_at, first_failing, least_handle, tried_entries, tried_certificate}
 use Rattle.dwg_cert.proofs.EntryTests.{least_after}

@@ -1,7 +1,7 @@
 -- The line on entries refuses the first entry that fails.
 use Rattle.std.proofs.Common.{◌≡◌, sym, ◌∙◌, ap, ℕ, ◌<◌, List, arith}
 use Rattle.std.specs.Prelude.{Err}
-use Rattle.dwg_base.specs.declared.refusal.Refusal.{Refusal}
+use Rattle.dwg_base.specs.Refusal.{Refusal}
 use Rattle.dwg_cert.specs.CertificateLines.{RefusesEntry, count_at, entry_fails, first_failing, tried_certificate}
 use Rattle.dwg_cert.specs.CertificateLaws.{RefusedEntryIsFirst}
 use Rattle.dwg_cert.proofs.EntryReading.{some_of_tried, tried_of_some}

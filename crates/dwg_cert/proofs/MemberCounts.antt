@@ -12,16 +12,24 @@ use Rattle.dwg_cert.specs.Accepts.{members_of}
 use Rattle.dwg_cert.specs.Checked.{CountsMembers, member_counts}
 use Rattle.dwg_graph.specs.Claimed.{raised}
 use Rattle.dwg_graph.specs.Graph.{is_member}
-use Rattle.dwg_graph.specs.Owners.{owner_of, spaces}
-use Rattle.dwg_graph.specs.Placed.{home_at, home_place, owner_place, place_in}
+use Rattle.dwg_graph.specs.Owners.{spaces}
+use Rattle.dwg_graph.specs.Placed.{home_at, home_place, owner_place, owner_table, place_in}
 use Rattle.dwg_graph.specs.Places.{Ascend, handles_of}
 use Rattle.dwg_graph.specs.declared.owner.SpaceHandles.{SpaceHandles}
 use Rattle.dwg_graph.proofs.Counting.{stands_there}
 use Rattle.dwg_graph.proofs.HolderLoops.{tabled}
 use Rattle.dwg_graph.proofs.PlacedObjects.{found_there}
+use Rattle.dwg_graph.proofs.PlacedPaths.{in_table}
 use Rattle.dwg_graph.proofs.Tests.{member_owner}
 use Rattle.dwg_object.specs.Objects.{ObjectValue, handle_of}
+use Rattle.dwg_chains.specs.Tables.{leads}
 use Rattle.dwg_chains.proofs.WayLemmas.{option_then_found}
+
+-- at an object's place the table of owners has where its owner stands
+pub owner_in_table : (objects : List ObjectValue) (known : Option SpaceHandles) (owners : List (Option ℕ)) (place : ℕ) (x : ObjectValue) (owner : Option ℕ) → owners ≡ owner_table objects known
+    → slice_get objects place ≡ Some x → owner ≡ leads owners place → owner ≡ owner_place objects known x
+owner_in_table objects known owners place x owner same stands is =
+    is ∙ ap (λ (table : List (Option ℕ)). leads table place) same ∙ in_table objects (owner_place objects known) place x stands
 
 -- none are counted
 pub none_counted : (objects : List ObjectValue) (known : Option SpaceHandles) (counts : List ℕ) → counts ≡ replicate (length objects) 0 → CountsMembers objects known 0 counts
@@ -132,9 +140,8 @@ all_members objects count counts most are =
     tabled (λ (block : ObjectValue). length (members_of objects block)) objects counts are.long
     (λ place block stands. are.each place block stands ∙ ap (λ (all : List ObjectValue). length (filter (is_member (spaces objects) block) all)) (take_all count objects most))
 
--- an object's home, by the index of handles
-pub home_by_index : (objects : List ObjectValue) (known : Option SpaceHandles) (x : ObjectValue) (index : List ℕ) (owner : ℕ) (at home : Option ℕ) → index ≡ handles_of objects → owner ≡ owner_of known x
-    → at ≡ place_in index owner → home ≡ option_and_then (home_at objects known x) at → home ≡ home_place objects known x
-home_by_index objects known x index owner at home same is found reported =
-    reported
-    ∙ ap (option_and_then (home_at objects known x)) (found ∙ ap (λ (handles : List ℕ). place_in handles owner) same ∙ ap (place_in (handles_of objects)) is)
+-- an object's home, by where the table has its owner
+pub home_by_owner : (objects : List ObjectValue) (known : Option SpaceHandles) (owners : List (Option ℕ)) (place : ℕ) (x : ObjectValue) (owner home : Option ℕ) → owners ≡ owner_table objects known
+    → slice_get objects place ≡ Some x → owner ≡ leads owners place → home ≡ option_and_then (home_at objects known x) owner → home ≡ home_place objects known x
+home_by_owner objects known owners place x owner home same stands is reported =
+    reported ∙ ap (option_and_then (home_at objects known x)) (owner_in_table objects known owners place x owner same stands is)

@@ -24,7 +24,7 @@ use Rattle.dwg_chains.specs.Tables.{is_at}
 use Rattle.dwg_chains.proofs.TestLemmas.{each_of_all, all_of_each}
 
 -- one test implies another
-implied : (a b : Bool) → IsTrue (not a || b) ↔ (IsTrue a → IsTrue b)
+pub implied : (a b : Bool) → IsTrue (not a || b) ↔ (IsTrue a → IsTrue b)
 implied true b = (λ is if_so. is, λ so. so refl)
 implied false b = (λ is if_so. absurd (cc if_so), λ so. refl)
 

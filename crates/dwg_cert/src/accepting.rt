@@ -6,6 +6,8 @@ ghost use Rattle.dwg_cert.specs.AcceptTests.{are_handles, is_accepted, is_right}
 ghost use Rattle.dwg_cert.specs.Accepts.{Accepts};
 ghost use Rattle.dwg_cert.specs.Checked.{CanBeChecked};
 ghost use Rattle.dwg_graph.specs.Claimed.{reference_count};
+ghost use Rattle.dwg_graph.specs.Owners.{spaces};
+ghost use Rattle.dwg_graph.specs.Placed.{owner_table};
 ghost use Rattle.dwg_graph.specs.Places.{Ascend, handles_of};
 ghost use Rattle.dwg_graph.specs.Sound.{IsSound};
 ghost use Rattle.dwg_object.specs.Objects.{value_of};
@@ -16,8 +18,9 @@ use crate::certificate::Certificate;
 use crate::checker::Checker;
 use crate::counting::{count_claims, count_members};
 use crate::entry::Entry;
+use crate::placing::Indexed;
 use dwg_base::NoMemory;
-use dwg_graph::{Index, control_count, spaces};
+use dwg_graph::control_count;
 use dwg_object::Object;
 use std::alloc::Global;
 
@@ -49,29 +52,52 @@ fn are_right(objects: &[Object<'_>], checker: &Checker<'_, '_>) -> bool
     true
 }
 
-/// Whether a certificate with an entry for each object is accepted.
-fn accepts_entries(
+/// Whether what entries, one for each object, say of it is right, where the owners of the objects stand there.
+fn are_entries_right(
     alloc: Global,
-    objects: &[Object<'_>],
+    drawing: &Indexed<'_, '_>,
+    owners: &[Option<usize>],
     entries: &[Entry],
 ) -> Result<bool, NoMemory>
-    requires can { CanBeChecked (map value_of objects.now) }
-    requires handles { IsTrue (are_handles entries.now (map value_of objects.now)) }
-    ensures { IfOk result (λ is. is ≡ list_all (is_right (map value_of objects.now) entries.now) (map value_of objects.now)) }
+    requires can { CanBeChecked drawing.now }
+    requires owners { owners.now ≡ owner_table drawing.now (spaces drawing.now) }
+    requires handles { IsTrue (are_handles entries.now drawing.now) }
+    ensures { IfOk result (λ is. is ≡ list_all (is_right drawing.now entries.now) drawing.now) }
 {
-    let known = spaces(objects);
-    let index = Index::build(alloc, objects)?;
-    let members = count_members(alloc, objects, &known, &index)?;
-    let claimed = count_claims(alloc, objects, &known, &index)?;
+    let objects = drawing.objects;
+    let Some(claimed) = count_claims(alloc, objects, &drawing.known, &drawing.index)? else {
+        return Ok(false);
+    };
+    let members = count_members(alloc, objects, &drawing.known, owners)?;
     let checker = Checker {
         objects,
         entries,
-        known,
-        index,
+        known: drawing.known,
+        index: &drawing.index,
+        owners,
         members,
         claimed,
     };
     Ok(are_right(objects, &checker))
+}
+
+/// Whether a certificate with an entry for each object is accepted, where the owners of the objects stand there.
+#[tactic(auto, unfolding(crate::specs::AcceptTests::is_accepted))]
+pub(crate) fn accepts_entries(
+    alloc: Global,
+    drawing: &Indexed<'_, '_>,
+    owners: &[Option<usize>],
+    entries: &[Entry],
+) -> Result<bool, NoMemory>
+    requires can { CanBeChecked drawing.now }
+    requires owners { owners.now ≡ owner_table drawing.now (spaces drawing.now) }
+    requires handles { IsTrue (are_handles entries.now drawing.now) }
+    ensures { IfOk result (λ is. is ≡ is_accepted drawing.now entries.now) }
+{
+    if control_count(drawing.objects) != 1 {
+        return Ok(false);
+    }
+    are_entries_right(alloc, drawing, owners, entries)
 }
 
 /// Whether the tests of a certificate with these entries pass.
@@ -83,10 +109,9 @@ fn tested(alloc: Global, objects: &[Object<'_>], entries: &[Entry]) -> Result<bo
     if !are_handles(entries, objects) {
         return Ok(false);
     }
-    if control_count(objects) != 1 {
-        return Ok(false);
-    }
-    accepts_entries(alloc, objects, entries)
+    let drawing = Indexed::build(alloc, objects)?;
+    let owners = drawing.owners(alloc)?;
+    accepts_entries(alloc, &drawing, &owners, entries)
 }
 
 /// Whether a certificate is one of these objects (a rule of this project): exactly where it has an entry for each of them, its ranks lead

@@ -3,20 +3,20 @@
 ghost use Rattle.std.specs.Prelude.{◌≡◌, ◌↔◌, ◌<◌, ◌+◌, ◌^◌, length, map, is_some, IfOk, IfSome, IsTrue, Some};
 ghost use Rattle.std.specs.List.{AllByRecursion, slice_get};
 ghost use Rattle.dwg_cert.specs.Certified.{certificate_of};
+ghost use Rattle.dwg_cert.specs.Checked.{CanBeChecked};
 ghost use Rattle.dwg_cert.specs.Drawn.{AreTables, drawn, drawn_entry, drawn_place, left_of, steps_between, steps_left};
 ghost use Rattle.dwg_graph.specs.Claimed.{reference_count};
 ghost use Rattle.dwg_graph.specs.Owners.{spaces};
-ghost use Rattle.dwg_graph.specs.Placed.{owner_place};
+ghost use Rattle.dwg_graph.specs.Placed.{owner_place, owner_table};
 ghost use Rattle.dwg_graph.specs.Places.{Ascend, handles_of};
 ghost use Rattle.dwg_graph.specs.Sound.{IsSound};
 ghost use Rattle.dwg_object.specs.Objects.{value_of};
 ghost use Rattle.dwg_object.specs.Written.{IsWhole};
-ghost use Rattle.dwg_chains.specs.Tables.{leads};
 
-use crate::acceptance::acceptance_laws;
-use crate::accepting::accepts;
+use crate::accepting::accepts_entries;
 use crate::certificate::Certificate;
 use crate::entry::Entry;
+use crate::lookup::reported_at;
 use crate::placing::{Indexed, Tables};
 use dwg_base::{Handle, Items, NoMemory, vec_with_capacity};
 use dwg_object::Object;
@@ -41,16 +41,6 @@ fn steps_between(from: Option<usize>, to: Option<usize>) -> Option<u64>
             Some(left) => number(all.checked_sub(left)),
             None => None,
         },
-        None => None,
-    }
-}
-
-/// What a table says of a place, none after its end.
-fn reported_at(table: &[Option<usize>], place: usize) -> Option<usize>
-    ensures { result ≡ leads table.now place }
-{
-    match table.get(place) {
-        Some(reported) => *reported,
         None => None,
     }
 }
@@ -126,18 +116,36 @@ fn entries(
 
 /// The certificate that is drawn up of objects, whether their references hold together or not. Err: out of memory.
 #[tactic(auto, using(crate::proofs::DrawnUp::drawn_of_sound))]
-fn draw_up(alloc: Global, objects: &[Object<'_>]) -> Result<Certificate, NoMemory>
-    requires ascending { Ascend (handles_of (map value_of objects.now)) }
-    requires few { length objects.now < 2 ^ 58 }
+fn draw_up(
+    alloc: Global,
+    drawing: &Indexed<'_, '_>,
+    tables: &Tables,
+) -> Result<Certificate, NoMemory>
+    requires ascending { Ascend (handles_of drawing.now) }
+    requires few { length drawing.now < 2 ^ 58 }
+    requires tables { AreTables drawing.now tables.now.owners.items tables.now.ranks.items tables.now.left.items }
     // It has an entry for each object, with its rank, and a place where it is a member of a block.
-    ensures drawn { IfOk result (λ cert. cert ≡ drawn (map value_of objects.now)) }
+    ensures drawn { IfOk result (λ cert. cert ≡ drawn drawing.now) }
     // It is that of the objects where they are sound.
-    ensures sound { IfOk result (λ cert. IsSound (map value_of objects.now) → cert ≡ certificate_of (map value_of objects.now)) }
+    ensures sound { IfOk result (λ cert. IsSound drawing.now → cert ≡ certificate_of drawing.now) }
 {
-    let drawing = Indexed::build(alloc, objects)?;
-    let tables = drawing.tables(alloc)?;
-    let entries = entries(alloc, &drawing, &tables)?;
+    let entries = entries(alloc, drawing, tables)?;
     Ok(Certificate::build(entries))
+}
+
+/// Whether the references of objects hold together: exactly where the certificate that is drawn up of them is accepted.
+fn are_sound(
+    alloc: Global,
+    drawing: &Indexed<'_, '_>,
+    owners: &[Option<usize>],
+    cert: &Certificate,
+) -> Result<bool, NoMemory>
+    requires can { CanBeChecked drawing.now }
+    requires owners { owners.now ≡ owner_table drawing.now (spaces drawing.now) }
+    requires drawn { cert.now ≡ drawn drawing.now }
+    ensures { IfOk result (λ are. IsTrue are ↔ IsSound drawing.now) }
+{
+    accepts_entries(alloc, drawing, owners, cert.entries())
 }
 
 /// The certificate of objects (a rule of this project), None exactly where their references don't hold together: of each its handle, how
@@ -150,9 +158,10 @@ pub fn certify(alloc: Global, objects: &[Object<'_>]) -> Result<Option<Certifica
     ensures certified { IfOk result (λ found. IfSome found (λ cert. cert ≡ certificate_of (map value_of objects.now))) }
     ensures sound { IfOk result (λ found. IsTrue (is_some found) ↔ IsSound (map value_of objects.now)) }
 {
-    acceptance_laws();
-    let cert = draw_up(alloc, objects)?;
-    if accepts(alloc, objects, &cert)? {
+    let drawing = Indexed::build(alloc, objects)?;
+    let tables = drawing.tables(alloc)?;
+    let cert = draw_up(alloc, &drawing, &tables)?;
+    if are_sound(alloc, &drawing, &tables.owners, &cert)? {
         Ok(Some(cert))
     } else {
         Ok(None)

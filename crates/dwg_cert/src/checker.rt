@@ -1,31 +1,29 @@
 //! What is asked of each object where a certificate is checked.
 
-ghost use Rattle.std.specs.Prelude.{◌≡◌, ◌<◌, ◌^◌, ◌||◌, false, length, map, Some, IsTrue};
-ghost use Rattle.std.specs.List.{filter, list_all, slice_get};
+ghost use Rattle.std.specs.Prelude.{◌≡◌, ◌<◌, ◌||◌, ℕ, false, length, map, Some, IsTrue};
+ghost use Rattle.std.specs.List.{filter, slice_get};
 ghost use Rattle.std.specs.Option.{option_and_then, option_map_or};
 ghost use Rattle.dwg_cert.specs.AcceptTests.{holds_together, is_begun, is_in_place, is_member_at, is_place, is_placed, is_rank, is_ranked, is_resolved, is_right};
 ghost use Rattle.dwg_cert.specs.Accepts.{entry_at, members_of, place_at, rank_at};
-ghost use Rattle.dwg_cert.specs.Checked.{end_handles};
+ghost use Rattle.dwg_cert.specs.Checked.{are_met, end_handles};
 ghost use Rattle.dwg_graph.specs.Counts.{by_holder};
 ghost use Rattle.dwg_graph.specs.Graph.{claims, is_member, object_at};
 ghost use Rattle.dwg_graph.specs.Owners.{owner_of, spaces};
 ghost use Rattle.dwg_graph.specs.Placed.{home_place, owner_place, place_in};
 ghost use Rattle.dwg_graph.specs.Places.{handles_of};
-ghost use Rattle.dwg_graph.specs.SlotLaws.{HoldsFields};
-ghost use Rattle.dwg_graph.specs.Slots.{slots};
-ghost use Rattle.dwg_graph.specs.Tests.{is_claimed, is_exempt, is_met};
+ghost use Rattle.dwg_graph.specs.Tests.{is_claimed, is_exempt};
+ghost use Rattle.dwg_kinds.specs.declared.field.Field.TheVariants as fields;
 ghost use Rattle.dwg_kinds.specs.Needs.{has_field};
 ghost use Rattle.dwg_object.specs.Objects.{ObjectValue, handle_of, kind_of, value_of};
-ghost use Rattle.dwg_object.specs.Written.{IsWhole};
 
 use crate::ends::{BlockEnds, ends_of};
 use crate::entry::Entry;
-use crate::lookup::place_of;
+use crate::lookup::{place_of, reported_at};
+use crate::needs::is_met;
 use dwg_base::Handle;
 use dwg_graph::{
     ClaimCounts, Claimed, Index, Slot, SpaceHandles, home_of, is_claimed, is_exempt, is_header,
-    is_member, is_met, is_raw, is_root, is_typed, next_of, owner_of, slot_at, slot_count,
-    slot_laws,
+    is_member, is_raw, is_root, is_typed, next_of, owner_of, slot_laws,
 };
 use dwg_kinds::Field;
 use dwg_object::Object;
@@ -40,7 +38,9 @@ pub(crate) struct Checker<'d, 'o> {
     pub(crate) entries: &'d [Entry],
     /// The model and the paper space.
     pub(crate) known: Option<SpaceHandles>,
-    pub(crate) index: Index,
+    pub(crate) index: &'d Index,
+    /// Where the owner of each object stands.
+    pub(crate) owners: &'d [Option<usize>],
     /// How many members each block has, by place.
     pub(crate) members: Vec<u64>,
     /// How many claims there are on each object, by place.
@@ -56,7 +56,7 @@ impl<'d, 'o> Model for Checker<'d, 'o> {
 
     ghost view = { λ c. record { objects = map value_of c.objects.now; cert = c.entries.now } };
 
-    ghost invariant = { λ c. IsChecker (map value_of c.objects.now) c.entries.now c.known c.index c.members.items c.claimed };
+    ghost invariant = { λ c. IsChecker (map value_of c.objects.now) c.entries.now c.known c.index.now c.owners.now c.members.items c.claimed };
 }
 
 /// The entry at a place, if there is one.
@@ -84,18 +84,20 @@ fn is_member_there(
     }
 }
 
-/// Whether a member of the block that stands at its home has a place that is right.
+/// Whether the member that stands at a place, of the block that stands at its home, has a place in the chain that is right.
 fn is_placed_at(
     objects: &[Object<'_>],
     checker: &Checker<'_, '_>,
     home: usize,
+    place: usize,
     object: &Object<'_>,
 ) -> bool
     requires same { checker.now.objects ≡ map value_of objects.now }
     requires within { home < length objects.now }
+    requires there { slice_get checker.now.objects place ≡ Some (value_of object.now) }
     ensures { (block : ObjectValue) → slice_get checker.now.objects home ≡ Some block → result ≡ is_placed checker.now.objects checker.now.cert (value_of object.now) block }
 {
-    checker.is_placed(&objects[home], checker.member_count(home), object)
+    checker.is_placed(&objects[home], checker.member_count(home), place, object)
 }
 
 impl<'d, 'o> Checker<'d, 'o> {
@@ -103,33 +105,59 @@ impl<'d, 'o> Checker<'d, 'o> {
     fn place_of(&self, handle: Handle) -> Option<usize>
         ensures { result ≡ place_in (handles_of self.now.objects) handle }
     {
-        place_of(&self.index, handle)
+        place_of(self.index, handle)
     }
 
-    /// The entry of a handle.
-    fn entry_at(&self, handle: Handle) -> Option<Entry>
-        ensures { result ≡ entry_at self.now.cert handle }
+    /// The entry at the place where the object of a handle stands, if any does.
+    fn entry_there(&self, place: Option<usize>) -> Option<Entry>
+        ensures { (handle : ℕ) → place ≡ place_in (handles_of self.now.objects) handle → result ≡ entry_at self.now.cert handle }
     {
-        entry_there(self.entries, self.place_of(handle))
+        entry_there(self.entries, place)
     }
 
-    /// The rank that the certificate gives the object of a handle.
-    fn rank_at(&self, handle: Handle) -> Option<u64>
-        ensures { result ≡ rank_at self.now.cert handle }
+    /// The rank that the certificate gives the object of a handle, which stands at a place, if any does.
+    fn rank_there(&self, place: Option<usize>) -> Option<u64>
+        ensures { (handle : ℕ) → place ≡ place_in (handles_of self.now.objects) handle → result ≡ rank_at self.now.cert handle }
     {
-        self.entry_at(handle)?.rank
+        self.entry_there(place)?.rank
     }
 
-    /// The place in its block's chain that the certificate gives the object of a handle.
-    fn chain_place_at(&self, handle: Handle) -> Option<u64>
-        ensures { result ≡ place_at self.now.cert handle }
+    /// The place in its block's chain that the certificate gives the object of a handle, which stands at a place, if any does.
+    fn chain_place_there(&self, place: Option<usize>) -> Option<u64>
+        ensures { (handle : ℕ) → place ≡ place_in (handles_of self.now.objects) handle → result ≡ place_at self.now.cert handle }
     {
-        self.entry_at(handle)?.chain
+        self.entry_there(place)?.chain
     }
 
-    /// Whether a rank is right of an object: 0 of a root, and any other of what is Typed or Plain and has an owner of the rank before.
+    /// The object at a place stands where its handle leads.
+    fn known_place(&self, place: usize)
+        ensures { (x : ObjectValue) → slice_get self.now.objects place ≡ Some x → Some place ≡ place_in (handles_of self.now.objects) (handle_of x) }
+    {
+        // What holds of the objects is reported where a field is read.
+        let _known = self.known;
+    }
+
+    /// The rank that the certificate gives the object at a place.
+    fn rank(&self, place: usize) -> Option<u64>
+        ensures { (x : ObjectValue) → slice_get self.now.objects place ≡ Some x → result ≡ rank_at self.now.cert (handle_of x) }
+    {
+        self.known_place(place);
+        self.rank_there(Some(place))
+    }
+
+    /// The place in its block's chain that the certificate gives the object at a place.
+    fn chain_place(&self, place: usize) -> Option<u64>
+        ensures { (x : ObjectValue) → slice_get self.now.objects place ≡ Some x → result ≡ place_at self.now.cert (handle_of x) }
+    {
+        self.known_place(place);
+        self.chain_place_there(Some(place))
+    }
+
+    /// Whether a rank is right of an object, whose owner may stand somewhere: 0 of a root, and any other of what is Typed or Plain and
+    /// has an owner of the rank before.
     #[tactic(auto, unfolding(crate::specs::AcceptTests::is_rank))]
-    fn is_rank(&self, object: &Object<'_>, rank: u64) -> bool
+    fn is_rank(&self, object: &Object<'_>, owner: Option<usize>, rank: u64) -> bool
+        requires owner { owner ≡ owner_place self.now.objects (spaces self.now.objects) (value_of object.now) }
         ensures { result ≡ is_rank self.now.objects self.now.cert (value_of object.now) rank }
     {
         if rank == 0 {
@@ -138,37 +166,40 @@ impl<'d, 'o> Checker<'d, 'o> {
         if is_raw(object) {
             return false;
         }
-        self.rank_at(owner_of(object, self.known)) == Some(rank - 1)
+        self.rank_there(owner) == Some(rank - 1)
     }
 
-    /// Whether an object has a rank that is right, or none and isn't Typed.
+    /// Whether the object at a place has a rank that is right, or none and isn't Typed.
     #[tactic(auto, unfolding(crate::specs::AcceptTests::is_ranked))]
-    fn is_ranked(&self, object: &Object<'_>) -> bool
+    fn is_ranked(&self, place: usize, object: &Object<'_>, owner: Option<usize>) -> bool
+        requires there { slice_get self.now.objects place ≡ Some (value_of object.now) }
+        requires owner { owner ≡ owner_place self.now.objects (spaces self.now.objects) (value_of object.now) }
         ensures { result ≡ is_ranked self.now.objects self.now.cert (value_of object.now) }
     {
-        match self.rank_at(object.handle()) {
-            Some(rank) => self.is_rank(object, rank),
+        match self.rank(place) {
+            Some(rank) => self.is_rank(object, owner, rank),
             None => !is_typed(object),
         }
     }
 
-    /// Whether the object of a handle is a member of a block.
-    fn is_member_of(&self, block: &Object<'_>, handle: Handle) -> bool
-        ensures { result ≡ option_map_or (is_member (spaces self.now.objects) (value_of block.now)) (object_at self.now.objects handle) false }
+    /// Whether the object of a handle, which stands at a place, if any does, is a member of a block.
+    fn is_member_of(&self, block: &Object<'_>, place: Option<usize>) -> bool
+        ensures { (handle : ℕ) → place ≡ place_in (handles_of self.now.objects) handle → result ≡ option_map_or (is_member (spaces self.now.objects) (value_of block.now)) (object_at self.now.objects handle) false }
     {
-        is_member_there(self.objects, &self.known, block, self.place_of(handle))
+        is_member_there(self.objects, &self.known, block, place)
     }
 
-    /// Whether the object of a handle is a member of a block, and has that place.
+    /// Whether the object of a handle is a member of a block, and has that place in its chain.
     #[tactic(auto, unfolding(crate::specs::AcceptTests::is_member_at))]
-    fn is_member_at(&self, block: &Object<'_>, handle: Handle, place: u64) -> bool
-        ensures { result ≡ is_member_at self.now.objects self.now.cert (value_of block.now) handle place }
+    fn is_member_at(&self, block: &Object<'_>, handle: Handle, chain_place: u64) -> bool
+        ensures { result ≡ is_member_at self.now.objects self.now.cert (value_of block.now) handle chain_place }
     {
-        self.is_member_of(block, handle) && self.chain_place_at(handle) == Some(place)
+        let place = self.place_of(handle);
+        self.is_member_of(block, place) && self.chain_place_there(place) == Some(chain_place)
     }
 
-    /// Whether a place is right of a member of a block that has so many: the member of the place after follows it, where there is
-    /// such a place, and else it is the last.
+    /// Whether a place in the chain is right of a member of a block that has so many: the member of the place after follows it, where
+    /// there is such a place, and else it is the last.
     #[tactic(auto, unfolding(crate::specs::AcceptTests::is_place))]
     fn is_place(
         &self,
@@ -176,31 +207,32 @@ impl<'d, 'o> Checker<'d, 'o> {
         count: u64,
         ends: &BlockEnds,
         object: &Object<'_>,
-        place: u64,
+        chain_place: u64,
     ) -> bool
         requires count { count ≡ length (members_of self.now.objects (value_of block.now)) }
-        ensures { result ≡ is_place self.now.objects self.now.cert (value_of block.now) (end_handles ends.now) (value_of object.now) place }
+        ensures { result ≡ is_place self.now.objects self.now.cert (value_of block.now) (end_handles ends.now) (value_of object.now) chain_place }
     {
-        if count <= place {
+        if count <= chain_place {
             return false;
         }
-        if place + 1 < count {
-            return self.is_member_at(block, next_of(object), place + 1);
+        if chain_place + 1 < count {
+            return self.is_member_at(block, next_of(object), chain_place + 1);
         }
         object.handle() == ends.last
     }
 
-    /// Whether a member of a block that has so many has a place that is right.
+    /// Whether the member at a place, of a block that has so many, has a place in the chain that is right.
     #[tactic(auto, unfolding(crate::specs::AcceptTests::is_placed))]
-    fn is_placed(&self, block: &Object<'_>, count: u64, object: &Object<'_>) -> bool
+    fn is_placed(&self, block: &Object<'_>, count: u64, place: usize, object: &Object<'_>) -> bool
         requires count { count ≡ length (members_of self.now.objects (value_of block.now)) }
+        requires there { slice_get self.now.objects place ≡ Some (value_of object.now) }
         ensures { result ≡ is_placed self.now.objects self.now.cert (value_of object.now) (value_of block.now) }
     {
         let Some(ends) = ends_of(block) else {
             return false;
         };
-        match self.chain_place_at(object.handle()) {
-            Some(place) => self.is_place(block, count, &ends, object, place),
+        match self.chain_place(place) {
+            Some(chain_place) => self.is_place(block, count, &ends, object, chain_place),
             None => false,
         }
     }
@@ -225,36 +257,38 @@ impl<'d, 'o> Checker<'d, 'o> {
         }
     }
 
-    /// The object at a place is whole and has few slots, as each of a drawing does.
-    fn known_object(&self, place: usize)
-        requires { place < length self.now.objects }
-        ensures whole { (x : ObjectValue) → slice_get self.now.objects place ≡ Some x → IsWhole x }
-        ensures few { (x : ObjectValue) → slice_get self.now.objects place ≡ Some x → length (slots x) < 2 ^ 58 }
+    /// Each slot of the object at a place meets its need.
+    fn known_slots(&self, place: usize)
+        ensures { (x : ObjectValue) → slice_get self.now.objects place ≡ Some x → IsTrue (are_met self.now.objects x) }
     {
         // What holds of the objects is reported where a field is read.
         let _known = self.known;
     }
 
-    /// Where the owner of an object stands.
-    fn owner(&self, object: &Object<'_>) -> Option<usize>
-        ensures { result ≡ owner_place self.now.objects (spaces self.now.objects) (value_of object.now) }
+    /// Where the owner of the object at a place stands.
+    fn owner(&self, place: usize) -> Option<usize>
+        requires { place < length self.now.objects }
+        ensures { (x : ObjectValue) → slice_get self.now.objects place ≡ Some x → result ≡ owner_place self.now.objects (spaces self.now.objects) x }
     {
-        self.place_of(owner_of(object, self.known))
+        reported_at(self.owners, place)
     }
 
-    /// Where the block stands of which an object is a member.
-    fn home(&self, object: &Object<'_>) -> Option<usize>
+    /// Where the block stands of which an object is a member, whose owner may stand somewhere.
+    fn home(&self, object: &Object<'_>, owner: Option<usize>) -> Option<usize>
+        requires owner { owner ≡ owner_place self.now.objects (spaces self.now.objects) (value_of object.now) }
         ensures { result ≡ home_place self.now.objects (spaces self.now.objects) (value_of object.now) }
     {
-        home_of(self.objects, &self.known, object, self.owner(object))
+        home_of(self.objects, &self.known, object, owner)
     }
 
-    /// Whether an object is no member of a block, or has a place that is right.
-    fn is_in_place(&self, object: &Object<'_>) -> bool
+    /// Whether the object at a place is no member of a block, or has a place in its chain that is right.
+    fn is_in_place(&self, place: usize, object: &Object<'_>, home: Option<usize>) -> bool
+        requires there { slice_get self.now.objects place ≡ Some (value_of object.now) }
+        requires home { home ≡ home_place self.now.objects (spaces self.now.objects) (value_of object.now) }
         ensures { result ≡ is_in_place self.now.objects self.now.cert (value_of object.now) }
     {
-        match self.home(object) {
-            Some(home) => is_placed_at(self.objects, self, home, object),
+        match home {
+            Some(home) => is_placed_at(self.objects, self, home, place, object),
             None => true,
         }
     }
@@ -272,81 +306,70 @@ impl<'d, 'o> Checker<'d, 'o> {
         }
     }
 
-    /// Whether a reference of an object meets its need.
-    #[tactic(auto, unfolding(dwg_graph::specs::Tests::is_met))]
-    fn is_met(&self, object: &Object<'_>, slot: &Slot) -> bool
-        requires held { IsTrue (has_field slot.now.field (kind_of (value_of object.now))) }
-        ensures { result ≡ is_met self.now.objects (value_of object.now) slot.now }
-    {
-        is_met(
-            self.objects,
-            object.kind(),
-            slot,
-            self.place_of(slot.target),
-        )
-    }
-
-    /// Whether each slot of an object meets its need.
-    fn are_slots_met(&self, object: &Object<'_>) -> bool
-        requires held { HoldsFields (value_of object.now) }
-        requires few { length (slots (value_of object.now)) < 2 ^ 58 }
-        ensures { result ≡ list_all (is_met self.now.objects (value_of object.now)) (slots (value_of object.now)) }
-    {
-        'slots: for i in 0..slot_count(object) {
-            if !self.is_met(object, &slot_at(object, i)) {
-                return false;
-            }
-        }
-        true
-    }
-
-    /// Whether the owner and each slot of a Typed object meet their needs.
-    #[tactic(auto, unfolding(crate::specs::AcceptTests::is_resolved))]
-    fn is_resolved(&self, object: &Object<'_>) -> bool
-        requires held { HoldsFields (value_of object.now) }
-        requires few { length (slots (value_of object.now)) < 2 ^ 58 }
+    /// Whether the owner of an object, which may stand somewhere, meets its need, and so each reference does where each slot does.
+    #[tactic(auto, unfolding(crate::specs::AcceptTests::is_resolved, crate::specs::Checked::are_met))]
+    fn is_resolved(&self, object: &Object<'_>, owner: Option<usize>) -> bool
+        requires held { IsTrue (has_field fields.Owner (kind_of (value_of object.now))) }
+        requires met { IsTrue (are_met self.now.objects (value_of object.now)) }
+        requires owner { owner ≡ owner_place self.now.objects (spaces self.now.objects) (value_of object.now) }
         ensures { result ≡ is_resolved self.now.objects (value_of object.now) }
     {
-        let owner = Slot {
+        let slot = Slot {
             field: Field::Owner,
             position: 0,
             target: owner_of(object, self.known),
         };
-        self.is_met(object, &owner) && self.are_slots_met(object)
+        is_met(self.objects, object, &slot, owner)
     }
 
-    /// Whether the object at a place is claimed as it should be, or no claim is asked of it.
-    fn is_claimed(&self, place: usize, object: &Object<'_>) -> bool
+    /// Whether the object at a place, whose owner and home may stand somewhere, is claimed as it should be, or no claim is asked of it.
+    fn is_claimed(
+        &self,
+        place: usize,
+        object: &Object<'_>,
+        owner: Option<usize>,
+        home: Option<usize>,
+    ) -> bool
         requires within { place < length self.now.objects }
         requires there { slice_get self.now.objects place ≡ Some (value_of object.now) }
+        requires owner { owner ≡ owner_place self.now.objects (spaces self.now.objects) (value_of object.now) }
+        requires home { home ≡ home_place self.now.objects (spaces self.now.objects) (value_of object.now) }
         ensures { result ≡ (is_exempt self.now.objects (spaces self.now.objects) (value_of object.now) || is_claimed self.now.objects (spaces self.now.objects) (value_of object.now)) }
     {
-        if is_exempt(self.objects, &self.known, object, self.home(object)) {
+        if is_exempt(self.objects, &self.known, object, home) {
             return true;
         }
         is_claimed(
             self.objects,
             &self.known,
             object,
-            self.owner(object),
+            owner,
             &self.claims(place),
         )
     }
 
-    /// Whether the references of the object at a place hold together.
+    /// Whether the references of the object at a place, whose owner and home may stand somewhere, hold together.
     #[tactic(auto, unfolding(crate::specs::AcceptTests::holds_together))]
-    fn holds_together(&self, place: usize, object: &Object<'_>) -> bool
+    fn holds_together(
+        &self,
+        place: usize,
+        object: &Object<'_>,
+        owner: Option<usize>,
+        home: Option<usize>,
+    ) -> bool
         requires within { place < length self.now.objects }
         requires there { slice_get self.now.objects place ≡ Some (value_of object.now) }
+        requires owner { owner ≡ owner_place self.now.objects (spaces self.now.objects) (value_of object.now) }
+        requires home { home ≡ home_place self.now.objects (spaces self.now.objects) (value_of object.now) }
         ensures { result ≡ holds_together self.now.objects self.now.cert (value_of object.now) }
     {
         if !is_typed(object) {
             return true;
         }
         slot_laws();
-        self.known_object(place);
-        self.is_resolved(object)
-            && self.is_claimed(place, object)
+        self.known_slots(place);
+        self.is_resolved(object, owner)
+            && self.is_claimed(place, object, owner, home)
             && (!is_header(object) || self.is_begun(place, object))
     }
 
@@ -357,6 +380,10 @@ impl<'d, 'o> Checker<'d, 'o> {
         requires there { slice_get self.now.objects place ≡ Some (value_of object.now) }
         ensures { result ≡ is_right self.now.objects self.now.cert (value_of object.now) }
     {
-        self.is_ranked(object) && self.is_in_place(object) && self.holds_together(place, object)
+        let owner = self.owner(place);
+        let home = self.home(object, owner);
+        self.is_ranked(place, object, owner)
+            && self.is_in_place(place, object, home)
+            && self.holds_together(place, object, owner, home)
     }
 }

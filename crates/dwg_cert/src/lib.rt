@@ -12,6 +12,7 @@ mod ends;
 mod entry;
 mod laws;
 mod lookup;
+mod needs;
 mod placing;
 mod reading;
 mod writing;

@@ -1,6 +1,7 @@
-//! Where the object of a handle stands.
+//! Where the object of a handle stands, and what tables say of places.
 
 ghost use Rattle.std.specs.Prelude.{◌≡◌, ◌<◌};
+ghost use Rattle.dwg_chains.specs.Tables.{leads};
 ghost use Rattle.dwg_graph.specs.Placed.{place_in};
 ghost use Rattle.dwg_graph.specs.Places.{Ascend};
 
@@ -29,4 +30,14 @@ pub(crate) fn place_of(index: &Index, handle: Handle) -> Option<usize>
     ensures { result ≡ place_in index.now handle }
 {
     place_counted::<Brand>(index, handle, Blank::new(1))
+}
+
+/// What a table says of a place, none after its end.
+pub(crate) fn reported_at(table: &[Option<usize>], place: usize) -> Option<usize>
+    ensures { result ≡ leads table.now place }
+{
+    match table.get(place) {
+        Some(reported) => *reported,
+        None => None,
+    }
 }

@@ -28,8 +28,8 @@ use std::marker::Model;
 pub(crate) struct Indexed<'d, 'o> {
     pub(crate) objects: &'d [Object<'o>],
     /// The model and the paper space.
-    known: Option<SpaceHandles>,
-    index: Index,
+    pub(crate) known: Option<SpaceHandles>,
+    pub(crate) index: Index,
 }
 
 impl<'d, 'o> Model for Indexed<'d, 'o> {
@@ -81,7 +81,7 @@ impl<'d, 'o> Indexed<'d, 'o> {
     }
 
     /// Where the owner of each object stands. Err: out of memory.
-    fn owners(&self, alloc: Global) -> Result<Vec<Option<usize>>, NoMemory>
+    pub(crate) fn owners(&self, alloc: Global) -> Result<Vec<Option<usize>>, NoMemory>
         ensures { IfOk result (λ places. places.items ≡ owner_table self.now (spaces self.now)) }
     {
         let mut places = Vec::new(alloc);

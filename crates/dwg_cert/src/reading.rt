@@ -1,7 +1,7 @@
 //! Reading certificates.
 
-ghost use Rattle.std.specs.Prelude.{◌≡◌, ◌+◌, ◌*◌, ◌≤◌, true, false, [], ◌∷◌, length, take, drop, bytes_eq, IfSome, IfNone, IfOk, IfErr, OnOk, MatchOption};
-ghost use Rattle.dwg_base.specs.Refusals.{first_fault, Answers, Reports, IsFaultOfTable, IsOfTable};
+ghost use Rattle.std.specs.Prelude.{◌≡◌, ◌+◌, ◌*◌, ◌≤◌, true, false, [], ◌∷◌, length, take, drop, bytes_eq, IfSome, IfNone, IfOk, IfErr, OnOk};
+ghost use Rattle.dwg_base.specs.Refusals.{first_fault, Answers, Reports};
 ghost use Rattle.dwg_cert.specs.WrittenForm.{MAGIC, BeginsWithCertificate, size_of};
 ghost use Rattle.dwg_cert.specs.CertificateLines.{CERTIFICATE_LINES, count_at, number_at, unstored, entry_stated_at, entry_fails, least_handle, short_line, begin_line, length_line, tried_certificate};
 
@@ -10,17 +10,11 @@ use crate::byte_layout::{
 };
 use crate::certificate::Certificate;
 use crate::entry::Entry;
+use dwg_base::refusal_lines::{
+    CERTIFICATE_BEGIN, CERTIFICATE_ENTRY, CERTIFICATE_LENGTH, CERTIFICATE_SHORT,
+};
 use dwg_base::{Fault, Handle, Items, Refusal, vec_with_capacity};
 use std::alloc::Global;
-
-// The lines of the table, in the order in which they are tried.
-const SHORT_LINE: u8 = 34;
-
-const BEGIN_LINE: u8 = 35;
-
-const LENGTH_LINE: u8 = 36;
-
-const ENTRY_LINE: u8 = 37;
 
 /// The most that a rank or a place in a chain is stored as: each is below 2^62, and stored plus 1.
 const MOST_STORED: u64 = 1 << 62;
@@ -73,31 +67,19 @@ fn has_magic(bytes: &[u8]) -> bool
 #[tactic(auto, unfolding(crate::specs::CertificateLines::short_line, crate::specs::CertificateLines::begin_line, crate::specs::CertificateLines::length_line))]
 fn refusal_of_prefix(bytes: &[u8]) -> Option<Refusal>
     ensures first { result ≡ first_fault (short_line ∷ begin_line ∷ length_line ∷ []) bytes.now }
-    ensures outcome { MatchOption result (size_of (count_at bytes.now) ≤ length bytes.now) IsOfTable }
+    ensures whole { IfNone result (size_of (count_at bytes.now) ≤ length bytes.now) }
 {
     let length = bytes.len();
     if length < ENTRIES_PLACE {
-        return Some(Refusal {
-            line: SHORT_LINE,
-            index: 0,
-            place: length as u64,
-        });
+        return Some(Refusal::new(CERTIFICATE_SHORT, 0, length as u64));
     }
     if !has_magic(bytes) {
-        return Some(Refusal {
-            line: BEGIN_LINE,
-            index: 0,
-            place: 0,
-        });
+        return Some(Refusal::new(CERTIFICATE_BEGIN, 0, 0));
     }
     // Divided, since the bytes of as many entries as it says may be more than a number can report.
     let most = ((length - ENTRIES_PLACE) / ENTRY_SIZE) as u64;
     if most < count(bytes) {
-        return Some(Refusal {
-            line: LENGTH_LINE,
-            index: 0,
-            place: COUNT_PLACE as u64,
-        });
+        return Some(Refusal::new(CERTIFICATE_LENGTH, 0, COUNT_PLACE as u64));
     }
     None
 }
@@ -139,17 +121,13 @@ fn read_entries(alloc: Global, bytes: &[u8], count: usize) -> Result<Items<Entry
     requires counted { count ≡ count_at bytes.now }
     requires within { size_of count ≤ length bytes.now }
     ensures answers { Answers result (tried_certificate bytes.now) }
-    ensures of_table { IfErr result IsFaultOfTable }
 {
     let mut entries = vec_with_capacity(alloc, count)?;
     let mut least = 0;
     'entries: for index in 0..count {
         let Some(entry) = read_entry(bytes, index, least) else {
-            return Err(Fault::Refused(Refusal {
-                line: ENTRY_LINE,
-                index: index as u64,
-                place: (ENTRIES_PLACE + ENTRY_SIZE * index) as u64,
-            }));
+            let place = (ENTRIES_PLACE + ENTRY_SIZE * index) as u64;
+            return Err(Fault::Refused(Refusal::new(CERTIFICATE_ENTRY, index as u64, place)));
         };
         least = entry.handle.value() + 1;
         entries.push(entry)?;
@@ -171,7 +149,6 @@ pub fn read_certificate(alloc: Global, bytes: &[u8]) -> Result<ReadCertificate, 
 
     // The first line that fails, or out of memory.
     ensures refused { IfErr result (λ fault. Reports fault (first_fault CERTIFICATE_LINES bytes.now)) }
-    ensures of_table { IfErr result IsFaultOfTable }
 {
     if let Some(refusal) = refusal_of_prefix(bytes) {
         return Err(Fault::Refused(refusal));

@@ -19,16 +19,10 @@ fn words_of(alloc: Global, bytes: &[u8]) -> Result<Vec<u16>, NoMemory>
 {
     let mut words = Vec::new(alloc);
     let mut word = 0;
-    match words.push(word) {
-        Ok(()) => {}
-        Err(_) => return Err(NoMemory),
-    }
+    words.push(word)?;
     'bytes: for byte in bytes {
         word = after_byte(word, *byte);
-        match words.push(word) {
-            Ok(()) => {}
-            Err(_) => return Err(NoMemory),
-        }
+        words.push(word)?;
     }
     Ok(words)
 }

@@ -1,7 +1,7 @@
 -- The lines of the table of refusals on classes, tried class by class. A rule of this project, over the classes of the Open Design Specification, "Classes".
 use Rattle.std.specs.Prelude.{◌≡◌, ◌⊎◌, ℕ, zero, suc, ◌+◌, ◌-◌, ◌/◌, ◌<◌, ◌≤◌, Bool, List, [], ◌∷◌, ◌++◌, length, nat_lt, Option, Some, None, Ok, Err, if◌then◌else◌}
 use Rattle.dwg_base.specs.Refusals.{Tried}
-use Rattle.dwg_base.specs.declared.refusal.Refusal.{Refusal}
+use Rattle.dwg_base.specs.Refusal.{Refusal}
 use Rattle.dwg_bits.specs.Bits.{bits}
 use Rattle.dwg_grammar.specs.Grammar.{BeginsWith}
 use Rattle.dwg_grammar.specs.ToEnd.{SpellsAll}

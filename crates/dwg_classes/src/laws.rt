@@ -2,7 +2,7 @@
 
 ghost use Rattle.std.specs.Prelude.{◌≡◌, ◌*◌, ◌≤◌, ◌↔◌, ℕ, List, Ok, Err, length};
 ghost use Rattle.std.specs.List.{AllByRecursion};
-ghost use Rattle.dwg_base.specs.declared.refusal.Refusal.{Refusal};
+ghost use Rattle.dwg_base.specs.Refusal.{Refusal};
 ghost use Rattle.dwg_bits.specs.Bits.{bits};
 ghost use Rattle.dwg_grammar.specs.Grammar.{IsLawful};
 ghost use Rattle.dwg_grammar.specs.ToEnd.{AreValues, HaveLeast, short_all};

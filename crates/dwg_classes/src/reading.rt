@@ -2,7 +2,7 @@
 
 ghost use Rattle.std.specs.Prelude.{◌≡◌, ◌+◌, ◌*◌, ◌/◌, ◌^◌, ◌<◌, ◌≤◌, length, Some, IfOk, IfErr};
 ghost use Rattle.std.specs.Option.{option_map};
-ghost use Rattle.dwg_base.specs.Refusals.{Answers, IfRefused, IsFaultOfTable};
+ghost use Rattle.dwg_base.specs.Refusals.{Answers, IfRefused};
 ghost use Rattle.dwg_bits.specs.Cursor.{rest};
 ghost use Rattle.dwg_grammar.specs.Grammar.{Reads};
 ghost use Rattle.dwg_grammar.specs.ToEnd.{short_all};
@@ -12,6 +12,7 @@ ghost use Rattle.dwg_classes.specs.WrittenClasses.{AreWritable};
 
 use crate::class::Class;
 use crate::class_parts::{read_name, read_number, read_proxy};
+use dwg_base::refusal_lines::{CLASS_NUMBER, CLASS_SPELLING};
 use dwg_base::{Fault, Items, NoMemory, Refusal};
 use dwg_bits::BitCursor;
 use std::alloc::Global;
@@ -21,12 +22,6 @@ const LEAST_BITS: u64 = 29;
 
 /// The least number of a class.
 const LEAST_NUMBER: u16 = 500;
-
-/// The line of the table of refusals on bits that spell no class.
-const SPELLING_LINE: u8 = 19;
-
-/// The line of the table of refusals on a number below 500.
-const NUMBER_LINE: u8 = 20;
 
 /// Reads a class, whatever its number. None exactly where no prefix of the rest spells one. Err: out of memory, which is taken only
 /// for bytes that are there.
@@ -70,14 +65,12 @@ fn read_class(alloc: Global, cursor: &mut BitCursor<'_>) -> Result<Option<Class>
 
 /// A refusal by a line of the table, of the class after so many others, which begins at a bit of the content.
 fn refused(line: u8, index: u64, place: u64, first: u64) -> Fault
+    requires least { 1 ≤ line }
+    requires most { line ≤ 37 }
     requires place { place < 2 ^ 62 }
     ensures { result ≡ Fault.Refused (record { line = line; index = index; place = place + first / 8 }) }
 {
-    Fault::Refused(Refusal {
-        line,
-        index,
-        place: place + first / 8,
-    })
+    Fault::Refused(Refusal::new(line, index, place + first / 8))
 }
 
 /// Reads the class after `index` others, in a content at `place`.
@@ -96,10 +89,10 @@ fn next_class(
 {
     let first = cursor.at();
     let Some(class) = read_class(alloc, cursor)? else {
-        return Err(refused(SPELLING_LINE, index, place, first));
+        return Err(refused(CLASS_SPELLING, index, place, first));
     };
     if class.number < LEAST_NUMBER {
-        return Err(refused(NUMBER_LINE, index, place, first));
+        return Err(refused(CLASS_NUMBER, index, place, first));
     }
     Ok(class)
 }
@@ -116,7 +109,6 @@ pub fn read_classes(alloc: Global, content: &[u8], place: u64) -> Result<Items<C
     ensures found { IfOk result (λ classes. AreClasses content.now classes) }
     ensures refused { IfErr result (λ fault. IfRefused fault (RefusesClass place content.now)) }
     ensures tried { Answers result (tried_classes place content.now) }
-    ensures of_table { IfErr result IsFaultOfTable }
     ensures writable { IfOk result AreWritable }
     ensures no_longer { IfOk result (λ classes. length (short_all numbered_class classes) ≤ 8 * length content.now) }
 {

@@ -1,14 +1,8 @@
-//! Tests of the program over devices in memory, by command; and the inputs and runs that they share.
+//! Tests of the program over devices in memory; and the inputs and runs that they share. What the program answers to drawings of all sorts
+//! stands in `tools/tests/cases`.
 
-mod appdata;
-mod audit;
 mod certificates;
 mod commands;
-mod drill;
 mod hostile;
 mod inputs;
-mod older;
-mod older_files;
-mod recover;
-mod references;
 mod runs;

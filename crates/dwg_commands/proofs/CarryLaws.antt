@@ -30,8 +30,10 @@ use Rattle.dwg_sections.specs.declared.header.FileHeader.{FileHeader}
 use Rattle.dwg_text.specs.Notes.{preview_dropped_note}
 use Rattle.dwg_commands.specs.declared.outcome.Outcome.{Outcome}
 use Rattle.dwg_commands.specs.declared.status.Status.TheVariants.{Done}
-use Rattle.dwg_commands.specs.declared.words.Reading.TheVariants.{Carry}
-use Rattle.dwg_commands.specs.Outcome.{outcome_passing, carried_from, carried_in, carrying_note, content_in, filed_with, outcome_within}
+use Rattle.dwg_commands.specs.declared.words.Command.TheVariants.{Carry}
+use Rattle.dwg_commands.specs.Answered.{carried_from, carried_in, carrying_note, content_in, filed_with}
+use Rattle.dwg_commands.specs.Commands.{READERS, row_of}
+use Rattle.dwg_commands.specs.Outcome.{outcome_within}
 use Rattle.dwg_commands.specs.OutcomeLaws.{Carries, CarryNotesNone, CarryWritesPreview, IsInput, NoneIsCarried, said}
 use Rattle.dwg_commands.specs.Words.{command_of, reading_of}
 use Rattle.dwg_commands.proofs.OutcomeLaws.{DrawingLaws, carried_large, carried_within, first_failing, of_input, passed, read_is, refused}
@@ -48,11 +50,12 @@ pub record CarryingLaws : Type 0 where
 
 -- `carry` names its command
 carry_said : (bytes : List ℕ) → IsInput bytes → said (codes "carry") bytes ≡ outcome_within Carry bytes
-unfolding command_of reading_of
-carry_said bytes input = of_input Carry bytes input
+unfolding command_of reading_of READERS row_of
+carry_said bytes input = of_input Carry bytes input refl
 
 -- it refuses an input that spells no drawing
 pub none_is_carried : DrawingLaws → NoneIsCarried
+unfolding row_of
 none_is_carried laws bytes input none =
     let fails = first_failing laws bytes input none in
     record { refusal = fails.0; first = fails.1; answers = carry_said bytes input ∙ refused Carry bytes fails.0 fails.1 }
@@ -61,7 +64,7 @@ none_is_carried laws bytes input none =
 carry_is_filed : DrawingLaws → HeaderIsRead → (header : FileHeader) (drawing : Contents) (bytes : List ℕ) (found : Option (List ℕ)) → IsInput bytes → Spelled drawing bytes
     → BeginsWithHeader bytes header → content_at bytes header.preview ≡ found
     → said (codes "carry") bytes ≡ filed_with (carried_from header.preview found) drawing (carrying_note found) Done
-unfolding outcome_passing
+unfolding row_of
 carry_is_filed laws is_read header drawing bytes found input spelled begins is =
     carry_said bytes input ∙ passed Carry bytes (laws.passes bytes drawing input.are spelled)
     ∙ ap (λ (one : Contents). filed_with (carried_in bytes) one (carrying_note (content_in bytes)) Done) (read_is laws drawing bytes input.are spelled)
@@ -160,7 +163,7 @@ carried_of_read bytes place (Some preview) is = ap (λ at. record { place = at; 
 pub carry_reported : (bytes : List ℕ) (drawing : Contents) (place : ℕ) (read : Option Preview) (note : List ℕ) → first_fault ALL_LINES bytes ≡ None → drawing ≡ drawing_at bytes
     → place ≡ (header_at bytes).preview → IfSome read (λ preview. (preview.place ≡ place) × PreviewAt bytes place preview.content.now) → content_of read ≡ content_at bytes place
     → note ≡ carrying_note (content_of read) → filed_with (carried_of read) drawing note Done ≡ outcome_within Carry bytes
-unfolding outcome_passing
+unfolding row_of
 carry_reported bytes drawing place read note holds is header some found noted_is =
     ap (λ (one : Carried). filed_with one drawing note Done) (carried_of_read bytes place read some)
     ∙ ap (λ (reported : List ℕ). filed_with (carried_from place (content_of read)) drawing reported Done) noted_is

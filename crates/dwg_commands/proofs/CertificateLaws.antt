@@ -5,7 +5,7 @@ use Rattle.dwg_audit.specs.Auditable.{ValidIsAuditable}
 use Rattle.dwg_base.specs.Bytes.{AreBytes}
 use Rattle.dwg_base.specs.Devices.{MOST_BYTES}
 use Rattle.dwg_base.specs.Refusals.{first_fault}
-use Rattle.dwg_base.specs.declared.refusal.Refusal.{Refusal}
+use Rattle.dwg_base.specs.Refusal.{Refusal}
 use Rattle.dwg_base.proofs.ByteLists.{joined_are_bytes}
 use Rattle.dwg_cert.specs.AcceptTests.{is_accepted}
 use Rattle.dwg_cert.specs.Accepts.{Accepts}
@@ -23,14 +23,15 @@ use Rattle.dwg_graph.specs.Sound.{IsSound}
 use Rattle.dwg_messages.specs.Acceptance.{accept_yes, accept_no}
 use Rattle.dwg_commands.specs.declared.outcome.Outcome.{Outcome}
 use Rattle.dwg_commands.specs.declared.status.Status.TheVariants.{Done, Found}
-use Rattle.dwg_commands.specs.declared.words.Reading.TheVariants.{Certify, Accept}
-use Rattle.dwg_commands.specs.CertifiedInput.{cert_in, drawing_bytes, drawing_row}
-use Rattle.dwg_commands.specs.Lines.{lines_of}
-use Rattle.dwg_commands.specs.Outcome.{acceptance, accepted, certified, outcome_passing, outcome_within}
+use Rattle.dwg_commands.specs.declared.words.Command.TheVariants.{Certify, Accept}
+use Rattle.dwg_commands.specs.CertifiedInput.{cert_in, drawing_bytes}
+use Rattle.dwg_commands.specs.Commands.{READERS, lines_of, row_of}
+use Rattle.dwg_commands.specs.Answered.{acceptance, accepted, certified}
+use Rattle.dwg_commands.specs.Outcome.{outcome_within}
 use Rattle.dwg_commands.specs.OutcomeLaws.{IsInput, said, RefusesBy, ReportsAccepted, NoneIsCertified, SoundIsCertified, UnsoundIsNoted, NoCertificateIsRefused, NoDrawingAfterIsRefused, AcceptReportsAccepted, CertifiedIsAccepted}
 use Rattle.dwg_commands.specs.Words.{command_of, reading_of}
 use Rattle.dwg_commands.proofs.CertificateOutcomes.{AcceptanceLaws, accepted_where_sound, refused_where_unsound, certified_some, certified_none, read_is_in}
-use Rattle.dwg_commands.proofs.Faults.{first_of_more, tried_of_drawing}
+use Rattle.dwg_commands.proofs.Faults.{refused_first, tried_of_drawing}
 use Rattle.dwg_commands.proofs.OutcomeLaws.{DrawingLaws, of_input, passed, refused, first_failing, read_is}
 use Rattle.dwg_commands.proofs.OwnCertificate.{own_is_certificate, own_has_handles}
 
@@ -42,22 +43,23 @@ pub record FormLaws : Type 0 where
 
 -- each of these words names its command
 certify_said : (bytes : List ℕ) → IsInput bytes → said (codes "certify") bytes ≡ outcome_within Certify bytes
-unfolding command_of reading_of
-certify_said bytes input = of_input Certify bytes input
+unfolding command_of reading_of READERS row_of
+certify_said bytes input = of_input Certify bytes input refl
 
 accept_said : (bytes : List ℕ) → IsInput bytes → said (codes "accept") bytes ≡ outcome_within Accept bytes
-unfolding command_of reading_of
-accept_said bytes input = of_input Accept bytes input
+unfolding command_of reading_of READERS row_of
+accept_said bytes input = of_input Accept bytes input refl
 
 -- `certify` refuses an input that spells no drawing
 pub none_is_certified : DrawingLaws → NoneIsCertified
+unfolding row_of
 none_is_certified laws bytes input none =
     let fails = first_failing laws bytes input none in
     record { refusal = fails.0; first = fails.1; answers = certify_said bytes input ∙ refused Certify bytes fails.0 fails.1 }
 
 -- of the drawing that an input spells it answers this
 certify_is : DrawingLaws → (drawing : Contents) (bytes : List ℕ) → IsInput bytes → Spelled drawing bytes → said (codes "certify") bytes ≡ certified drawing
-unfolding outcome_passing
+unfolding row_of
 certify_is laws drawing bytes input spelled =
     certify_said bytes input ∙ passed Certify bytes (laws.passes bytes drawing input.are spelled) ∙ ap certified (read_is laws drawing bytes input.are spelled)
 
@@ -81,7 +83,7 @@ no_certificate_is_refused forms bytes input none = of_first (first_fault CERTIFI
     of_first (Some refusal) is = record {
       refusal = refusal;
       first = is;
-      answers = accept_said bytes input ∙ refused Accept bytes refusal (first_of_more CERTIFICATE_LINES (drawing_row ∷ []) bytes refusal is);
+      answers = accept_said bytes input ∙ refused Accept bytes refusal (refused_first bytes refusal is);
     }
     of_first None is = let has = (forms.exact bytes input.are).0 is in absurd (none has.0 has.1 has.2)
 
@@ -129,7 +131,7 @@ no_drawing_after_is_refused laws forms bytes cert rest input begins none =
 -- of a certificate and a drawing it answers this
 accept_is : DrawingLaws → FormLaws → (bytes : List ℕ) (cert : List Entry) (drawing : Contents) (rest : List ℕ) → IsInput bytes → BeginsWithCertificate bytes cert rest → Spelled drawing rest
     → said (codes "accept") bytes ≡ acceptance (is_accepted drawing.objects cert)
-unfolding outcome_passing accepted
+unfolding row_of accepted
 accept_is laws forms bytes cert drawing rest input begins spelled =
     let there = input_after bytes cert rest input begins in
     let known = begun forms bytes cert rest begins in

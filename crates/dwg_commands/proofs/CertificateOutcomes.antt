@@ -25,7 +25,7 @@ use Rattle.dwg_graph.specs.Sound.{IsSound}
 use Rattle.dwg_object.specs.Objects.{ObjectValue}
 use Rattle.dwg_text.specs.Notes.{unsound_note}
 use Rattle.dwg_commands.specs.CertifiedInput.{cert_in, drawing_bytes}
-use Rattle.dwg_commands.specs.Outcome.{certified, noted, printed}
+use Rattle.dwg_commands.specs.Answered.{certified, noted, printed}
 use Rattle.dwg_commands.specs.declared.status.Status.TheVariants.{Found}
 
 -- what is known of acceptance

@@ -1,50 +1,48 @@
--- Commands that read: each is read back from its reading, and those that make a drawing are none.
-use Rattle.std.proofs.Common.{◌≡◌, refl, sym, ◌∙◌, ap, subst, Some, None}
-use Rattle.std.specs.Prelude.{Option}
-use Rattle.std.specs.Option.{is_some}
+-- Commands that read, and those that don't.
+use Rattle.std.proofs.Common.{◌≡◌, refl, sym, ◌∙◌, subst, List, [], ◌∷◌, Bool, true, false, Some}
+use Rattle.std.proofs.lemmas.Bool.{and_parts}
+use Rattle.std.specs.Prelude.{Option, ℕ, IfSome, IsTrue, find, bytes_eq, if◌then◌else◌}
+use Rattle.std.specs.List.{list_all}
 use Rattle.dwg_commands.specs.declared.words.Command.{Command}
-use Rattle.dwg_commands.specs.declared.words.Command.TheVariants as commands
-use Rattle.dwg_commands.specs.declared.words.Reading.{Reading}
-use Rattle.dwg_commands.specs.declared.words.Reading.TheVariants.{Sections, Classes, Show, Rewrite, Audit, Recover, Appdata, Certify, Accept, Carry}
-use Rattle.dwg_commands.specs.Words.{IsReading, IsUsage, reading_in, reads}
+use Rattle.dwg_commands.specs.declared.words.Command.TheVariants.{Make, Drill}
+use Rattle.dwg_commands.specs.Commands.{READERS, reads, row_of}
+use Rattle.dwg_commands.specs.Words.{IsReading, IsUsage, reading_of}
 
--- a command that reads is read back
-pub reads_back : (reading : Reading) → reading_in (reads reading) ≡ Some reading
-reads_back Sections = refl
-reads_back Classes = refl
-reads_back Show = refl
-reads_back Rewrite = refl
-reads_back Audit = refl
-reads_back Recover = refl
-reads_back Appdata = refl
-reads_back Certify = refl
-reads_back Accept = refl
-reads_back Carry = refl
+-- words that name one that reads
+pub names_reading : (named : Option Command) (command : Command) → named ≡ Some command → IsTrue (reads command) → IsReading named
+names_reading named command names is = subst IsReading (sym names) is
 
--- it isn't one that doesn't read
-pub reads_no : (reading : Reading) (command : Command) → reading_in command ≡ None → reads reading ≡ command → ⊥
-reads_no reading command none same =
-    let both : Some reading ≡ None = sym (reads_back reading) ∙ ap reading_in same ∙ none in
+-- and those that don't
+pub names_unread : (named : Option Command) (command : Command) → named ≡ Some command → reads command ≡ false → IsReading named → ⊥
+names_unread named command names unread reading =
+    let read : reads command ≡ true = subst IsReading names reading in
+    let both : true ≡ false = sym read ∙ unread in
     absurd cc
 
--- words that name it name a command that reads
-pub names_reading : (named : Option Command) (command : Command) (reading : Reading) → named ≡ Some command → reading_in command ≡ Some reading → IsReading named
-names_reading named command reading names is = subst IsReading (sym names) (ap is_some is)
+-- one that reads can be heeded
+heeded : (command : Command) → IsTrue (reads command) → IsUsage (Some command) → ⊥
+unfolding row_of
+heeded (Make n seed) is usage = let both : false ≡ true = is in absurd cc
+heeded (Drill n) is usage = let both : false ≡ true = is in absurd cc
+heeded command is usage = usage
 
--- and can be heeded
-heeded : (command : Command) (reading : Reading) → reading_in command ≡ Some reading → IsUsage (Some command) → ⊥
-heeded commands.Sections reading is usage = usage
-heeded commands.Classes reading is usage = usage
-heeded commands.Show reading is usage = usage
-heeded commands.Rewrite reading is usage = usage
-heeded commands.Audit reading is usage = usage
-heeded commands.Recover reading is usage = usage
-heeded commands.Appdata reading is usage = usage
-heeded commands.Certify reading is usage = usage
-heeded commands.Accept reading is usage = usage
-heeded commands.Carry reading is usage = usage
-heeded (commands.Make n seed) reading is usage = absurd cc
-heeded (commands.Drill n) reading is usage = absurd cc
+pub names_heeded : (named : Option Command) (command : Command) → named ≡ Some command → IsTrue (reads command) → IsUsage named → ⊥
+names_heeded named command names is usage = heeded command is (subst IsUsage names usage)
 
-pub names_heeded : (named : Option Command) (command : Command) (reading : Reading) → named ≡ Some command → reading_in command ≡ Some reading → IsUsage named → ⊥
-names_heeded named command reading names is usage = heeded command reading is (subst IsUsage names usage)
+-- what is found among commands that read is one
+found_reads : (test : Command → Bool) (those : List Command) → IsTrue (list_all reads those) → IfSome (find test those) (λ command. IsTrue (reads command))
+found_reads test [] all = tt
+found_reads test (first ∷ rest) all =
+    let both = and_parts (reads first) (list_all reads rest) all in
+    of_test (test first) both.0 (found_reads test rest both.1)
+  where
+    of_test : (found : Bool) → IsTrue (reads first) → IfSome (find test rest) (λ command. IsTrue (reads command))
+        → IfSome (if found then Some first else find test rest) (λ command. IsTrue (reads command))
+    of_test true is further = is
+    of_test false is further = further
+
+-- so a word alone names one that reads
+pub word_reads : (word : List ℕ) (command : Command) → reading_of word ≡ Some command → IsTrue (reads command)
+unfolding reading_of READERS row_of
+word_reads word command is =
+    subst (λ (found : Option Command). IfSome found (λ one. IsTrue (reads one))) is (found_reads (λ (one : Command). bytes_eq word (row_of one).word) READERS refl)

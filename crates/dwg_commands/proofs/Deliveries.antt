@@ -6,7 +6,7 @@ use Rattle.dwg_base.specs.Devices.{MOST_BYTES}
 use Rattle.dwg_commands.specs.declared.status.Status.{Status}
 use Rattle.dwg_commands.specs.declared.status.Status.TheVariants.{TooLarge}
 use Rattle.dwg_commands.specs.declared.outcome.Outcome.{Outcome}
-use Rattle.dwg_commands.specs.Outcome.{noted, filed_with}
+use Rattle.dwg_commands.specs.Answered.{noted, filed_with}
 use Rattle.dwg_file.specs.Canonical.{Carried, canonical_with, size_with}
 use Rattle.dwg_file.specs.Contents.{Contents}
 use Rattle.dwg_file.specs.Plans.{Planned}

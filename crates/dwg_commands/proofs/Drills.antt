@@ -5,7 +5,7 @@ use Rattle.std.specs.Prelude.{Bool, ◌||◌, ◌==◌, ◌⊎◌, nat_lt, if◌
 use Rattle.dwg_base.specs.Devices.{MOST_BYTES}
 use Rattle.dwg_commands.specs.declared.outcome.Outcome.{Outcome}
 use Rattle.dwg_commands.specs.declared.status.Status.TheVariants.{Usage, TooLarge}
-use Rattle.dwg_commands.specs.Outcome.{noted, printed, drilled_outcome, drill_outcome}
+use Rattle.dwg_commands.specs.Answered.{noted, printed, drilled_outcome, drill_outcome}
 use Rattle.dwg_commands.specs.Run.{IsSettled}
 use Rattle.dwg_drill.specs.Drilled.{DRILL_SEED, drilled}
 use Rattle.dwg_file.specs.Canonical.{size_of}

@@ -11,19 +11,22 @@ use Rattle.dwg_file.specs.Spelled.{Spelled}
 use Rattle.dwg_commands.specs.declared.outcome.Outcome.{Outcome}
 use Rattle.dwg_commands.specs.declared.status.Status.{Status}
 use Rattle.dwg_commands.specs.declared.status.Status.TheVariants.{Done, Found}
-use Rattle.dwg_commands.specs.declared.words.Reading.TheVariants.{Appdata}
-use Rattle.dwg_commands.specs.Outcome.{items_reported, verdict_status, outcome_passing, outcome_within}
+use Rattle.dwg_commands.specs.declared.words.Command.TheVariants.{Appdata}
+use Rattle.dwg_commands.specs.Answered.{items_reported, verdict_status}
+use Rattle.dwg_commands.specs.Commands.{READERS, row_of}
+use Rattle.dwg_commands.specs.Outcome.{outcome_within}
 use Rattle.dwg_commands.specs.OutcomeLaws.{IsInput, said, ReportsItems, NoItemsAreReported, AppdataReportsItems}
 use Rattle.dwg_commands.specs.Words.{command_of, reading_of}
 use Rattle.dwg_commands.proofs.OutcomeLaws.{DrawingLaws, of_input, passed, refused, first_failing, read_is}
 
 -- the word names its command
 appdata_said : (bytes : List ℕ) → IsInput bytes → said (codes "appdata") bytes ≡ outcome_within Appdata bytes
-unfolding command_of reading_of
-appdata_said bytes input = of_input Appdata bytes input
+unfolding command_of reading_of READERS row_of
+appdata_said bytes input = of_input Appdata bytes input refl
 
 -- it refuses an input that spells no drawing
 pub no_items_are_reported : DrawingLaws → NoItemsAreReported
+unfolding row_of
 no_items_are_reported laws bytes input none =
     let fails = first_failing laws bytes input none in
     record { refusal = fails.0; first = fails.1; answers = appdata_said bytes input ∙ refused Appdata bytes fails.0 fails.1 }
@@ -43,7 +46,7 @@ ends_found {A} (finding ∷ more) Met met fails = refl
 
 -- of the drawing that an input spells it answers this
 items_are : DrawingLaws → (drawing : Contents) (bytes : List ℕ) → IsInput bytes → Spelled drawing bytes → said (codes "appdata") bytes ≡ items_reported drawing
-unfolding outcome_passing
+unfolding row_of
 items_are laws drawing bytes input spelled =
     appdata_said bytes input ∙ passed Appdata bytes (laws.passes bytes drawing input.are spelled) ∙ ap items_reported (read_is laws drawing bytes input.are spelled)
 

@@ -8,6 +8,7 @@ pub mod Numerals
 pub mod MakeWords
 pub mod DrillWords
 pub mod Drills
+pub mod Unread
 pub mod SectionLemmas
 pub mod ShortDamage
 pub mod ItemLaws

@@ -1,19 +1,18 @@
 -- The words that name the command which makes a drawing.
 use Rattle.std.proofs.Common.{◌≡◌, refl, sym, ap, ap₂, ◌∙◌, subst, ℕ, ◌<◌, ◌^◌, List, [], ◌∷◌, Bool, true, false, Some, None, IfSome}
 use Rattle.std.specs.Prelude.{Option, codes, decimal, bytes_eq, if◌then◌else◌}
-use Rattle.std.specs.Option.{option_map}
 use Rattle.std.proofs.lemmas.Slice.Eq.{bytes_eq-Decides}
 use Rattle.dwg_commands.specs.declared.words.Command.{Command}
 use Rattle.dwg_commands.specs.declared.words.Command.TheVariants.{Make}
-use Rattle.dwg_commands.specs.declared.words.Reading.{Reading}
-use Rattle.dwg_commands.specs.Words.{number_of, make_of, drill_of, reading_of, reads, command_of}
-use Rattle.dwg_commands.proofs.CommandsRead.{reads_no}
+use Rattle.dwg_commands.specs.Commands.{row_of}
+use Rattle.dwg_commands.specs.Words.{number_of, make_of, drill_of, reading_of, command_of}
+use Rattle.dwg_commands.proofs.CommandsRead.{word_reads}
 use Rattle.dwg_commands.proofs.Numerals.{number_of_decimal, spelled}
 
 -- they name it
 pub make_named : (words : List (List ℕ)) (result : Option Command) (n seed : ℕ) → result ≡ command_of words → n < 2 ^ 32 → seed < 2 ^ 32
     → words ≡ codes "make" ∷ decimal n ∷ decimal seed ∷ [] → result ≡ Some (Make n seed)
-unfolding command_of
+unfolding command_of row_of
 make_named words result n seed named small seed_small is =
     named ∙ ap command_of is ∙ ap₂ make_of (number_of_decimal n small) (number_of_decimal seed seed_small)
 
@@ -24,9 +23,11 @@ of_numbers (Some a) None n seed is = absurd cc
 of_numbers None other n seed is = absurd cc
 
 -- one word doesn't name it
-of_word : (reading : Option Reading) (n seed : ℕ) → option_map reads reading ≡ Some (Make n seed) → ⊥
-of_word (Some reading) n seed is = absurd (reads_no reading (Make n seed) refl cc)
-of_word None n seed is = absurd cc
+of_word : (word : List ℕ) (n seed : ℕ) → reading_of word ≡ Some (Make n seed) → ⊥
+unfolding row_of
+of_word word n seed is =
+    let both : false ≡ true = word_reads word (Make n seed) is in
+    absurd cc
 
 -- nor do two
 of_two_words : (test : Bool) (one : Option ℕ) (n seed : ℕ) → (if test then drill_of one else None) ≡ Some (Make n seed) → ⊥
@@ -40,9 +41,9 @@ text_of word value is = subst (λ result. IfSome result (λ number. word ≡ dec
 
 -- nothing else names it
 make_words : (words : List (List ℕ)) (n seed : ℕ) → command_of words ≡ Some (Make n seed) → words ≡ codes "make" ∷ decimal n ∷ decimal seed ∷ []
-unfolding command_of
+unfolding command_of row_of
 make_words [] n seed names = absurd cc
-make_words (word ∷ []) n seed names = absurd (of_word (reading_of word) n seed names)
+make_words (word ∷ []) n seed names = absurd (of_word word n seed names)
 make_words (word ∷ one ∷ []) n seed names = absurd (of_two_words (bytes_eq word (codes "drill")) (number_of one) n seed names)
 make_words (word ∷ one ∷ other ∷ []) n seed names = of_test (bytes_eq word (codes "make")) refl names
   where

@@ -5,7 +5,7 @@ use Rattle.std.specs.Prelude.{Bool, ◌||◌, ◌==◌, ◌⊎◌, nat_lt, if◌
 use Rattle.dwg_base.specs.Devices.{MOST_BYTES}
 use Rattle.dwg_commands.specs.declared.outcome.Outcome.{Outcome}
 use Rattle.dwg_commands.specs.declared.status.Status.TheVariants.{Usage, TooLarge}
-use Rattle.dwg_commands.specs.Outcome.{noted, printed, filed, filed_with, written, made_outcome}
+use Rattle.dwg_commands.specs.Answered.{noted, printed, filed, filed_with, written, made_outcome}
 use Rattle.dwg_commands.specs.Run.{IsSettled}
 use Rattle.dwg_file.specs.Canonical.{size_of, canonical}
 use Rattle.dwg_file.specs.Contents.{Contents}

@@ -1,14 +1,14 @@
 -- What `show`, `rewrite`, `audit` and `recover` answer, said of the drawing that the input spells.
 use Rattle.std.proofs.Common.{◌≡◌, refl, sym, ap, ◌∙◌, subst, ℕ, ◌≤◌, ◌<◌, List, [], ◌∷◌, length, codes, get_or, Some, None, true, false, arith}
 use Rattle.std.proofs.lemmas.Bool.Decides.{nat_tests}
-use Rattle.std.specs.Prelude.{◌↔◌, Option, nat_lt, if◌then◌else◌}
+use Rattle.std.specs.Prelude.{◌↔◌, IsTrue, Option, nat_lt, if◌then◌else◌}
 use Rattle.dwg_audit.specs.FindingLaws.{NothingIsFoundIfSound}
 use Rattle.dwg_audit.specs.Findings.{findings}
 use Rattle.dwg_audit.specs.declared.finding.Finding.{Finding}
 use Rattle.dwg_base.specs.Bytes.{AreBytes}
 use Rattle.dwg_base.specs.Devices.{MOST_BYTES}
 use Rattle.dwg_base.specs.Refusals.{first_fault}
-use Rattle.dwg_base.specs.declared.refusal.Refusal.{Refusal}
+use Rattle.dwg_base.specs.Refusal.{Refusal}
 use Rattle.dwg_audit.specs.Auditable.{ValidIsAuditable}
 use Rattle.dwg_file.specs.Canonical.{Carried, NO_PICTURE, canonical, canonical_with, size_of, size_with}
 use Rattle.dwg_file.specs.CanonicalLaws.{CanonicalSpells, CanonicalIsCounted, CanonicalSpellsNoOther}
@@ -29,13 +29,13 @@ use Rattle.dwg_text.specs.Notes.{too_large_note}
 use Rattle.dwg_commands.specs.declared.outcome.Outcome.{Outcome}
 use Rattle.dwg_commands.specs.declared.status.Status.{Status}
 use Rattle.dwg_commands.specs.declared.status.Status.TheVariants.{Done, Found, TooLarge}
-use Rattle.dwg_commands.specs.declared.words.Reading.{Reading}
-use Rattle.dwg_commands.specs.declared.words.Reading.TheVariants.{Show, Rewrite, Audit, Recover}
-use Rattle.dwg_commands.specs.Lines.{lines_of}
-use Rattle.dwg_commands.specs.Outcome.{noted, refused_or, printed, filed, filed_with, written, audited, verdict_status, recovery_notes, recovery_status, recovered_outcome, outcome_passing, outcome_within, outcome_of}
+use Rattle.dwg_commands.specs.declared.words.Command.{Command}
+use Rattle.dwg_commands.specs.declared.words.Command.TheVariants.{Show, Rewrite, Audit, Recover}
+use Rattle.dwg_commands.specs.Commands.{READERS, lines_of, reads, row_of}
+use Rattle.dwg_commands.specs.Answered.{noted, printed, filed, filed_with, written, audited, verdict_status, recovery_notes, recovery_status, recovered_outcome}
+use Rattle.dwg_commands.specs.Outcome.{refused_or, outcome_within, outcome_of}
 use Rattle.dwg_commands.specs.OutcomeLaws.{IsInput, SpellsNone, said, Rewrites, ReportsSound, NoDrawingIsRefused, ShowPrintsDrawing, RewriteWritesDrawing, RewriteReportsSize, AuditReportsSound, RecoverRewritesDrawing, RecoverWritesFrames}
-use Rattle.dwg_commands.specs.Words.{command_of, reading_of, reads}
-use Rattle.dwg_commands.proofs.CommandsRead.{reads_back}
+use Rattle.dwg_commands.specs.Words.{command_of, reading_of}
 use Rattle.dwg_commands.proofs.Outcomes.{outcome_of_few, outcome_of_reading}
 
 -- what is known of the drawings that inputs spell
@@ -51,37 +51,37 @@ pub record FileLaws : Type 0 where
   pub counted : CanonicalIsCounted
   pub no_other : CanonicalSpellsNoOther
 
--- the word of a command that reads is answered as the command answers an input within the limit
-pub of_input : (reading : Reading) (bytes : List ℕ) → IsInput bytes → outcome_of (Some (reads reading)) bytes ≡ outcome_within reading bytes
-of_input reading bytes input =
-    sym (outcome_of_reading (Some (reads reading)) (reads reading) reading bytes refl (reads_back reading)) ∙ sym (outcome_of_few reading bytes (outcome_within reading bytes) input.within refl)
+-- a command that reads is answered to as to an input within the limit
+pub of_input : (command : Command) (bytes : List ℕ) → IsInput bytes → IsTrue (reads command) → outcome_of (Some command) bytes ≡ outcome_within command bytes
+of_input command bytes input is =
+    sym (outcome_of_reading (Some command) command bytes refl is) ∙ sym (outcome_of_few command bytes (outcome_within command bytes) input.within refl)
 
 -- each of these words names its command
 pub show_said : (bytes : List ℕ) → IsInput bytes → said (codes "show") bytes ≡ outcome_within Show bytes
-unfolding command_of reading_of
-show_said bytes input = of_input Show bytes input
+unfolding command_of reading_of READERS row_of
+show_said bytes input = of_input Show bytes input refl
 
 pub rewrite_said : (bytes : List ℕ) → IsInput bytes → said (codes "rewrite") bytes ≡ outcome_within Rewrite bytes
-unfolding command_of reading_of
-rewrite_said bytes input = of_input Rewrite bytes input
+unfolding command_of reading_of READERS row_of
+rewrite_said bytes input = of_input Rewrite bytes input refl
 
 pub audit_said : (bytes : List ℕ) → IsInput bytes → said (codes "audit") bytes ≡ outcome_within Audit bytes
-unfolding command_of reading_of
-audit_said bytes input = of_input Audit bytes input
+unfolding command_of reading_of READERS row_of
+audit_said bytes input = of_input Audit bytes input refl
 
 recover_said : (bytes : List ℕ) → IsInput bytes → said (codes "recover") bytes ≡ outcome_within Recover bytes
-unfolding command_of reading_of
-recover_said bytes input = of_input Recover bytes input
+unfolding command_of reading_of READERS row_of
+recover_said bytes input = of_input Recover bytes input refl
 
 -- where none of a command's lines fails, or one does, its answer is this
-pub passed : (reading : Reading) (bytes : List ℕ) → first_fault (lines_of reading) bytes ≡ None → outcome_within reading bytes ≡ outcome_passing reading bytes
+pub passed : (command : Command) (bytes : List ℕ) → first_fault (lines_of command) bytes ≡ None → outcome_within command bytes ≡ (row_of command).answer bytes
 unfolding outcome_within
-passed reading bytes holds = ap (λ (first : Option Refusal). refused_or first (outcome_passing reading bytes)) holds
+passed command bytes holds = ap (λ (first : Option Refusal). refused_or first ((row_of command).answer bytes)) holds
 
-pub refused : (reading : Reading) (bytes : List ℕ) (refusal : Refusal) → first_fault (lines_of reading) bytes ≡ Some refusal
-    → outcome_within reading bytes ≡ refused_or (Some refusal) (outcome_passing reading bytes)
+pub refused : (command : Command) (bytes : List ℕ) (refusal : Refusal) → first_fault (lines_of command) bytes ≡ Some refusal
+    → outcome_within command bytes ≡ refused_or (Some refusal) ((row_of command).answer bytes)
 unfolding outcome_within
-refused reading bytes refusal fails = ap (λ (first : Option Refusal). refused_or first (outcome_passing reading bytes)) fails
+refused command bytes refusal fails = ap (λ (first : Option Refusal). refused_or first ((row_of command).answer bytes)) fails
 
 -- an input that spells no drawing fails a line
 pub first_failing : DrawingLaws → (bytes : List ℕ) → IsInput bytes → SpellsNone bytes → (refusal : Refusal) × (first_fault ALL_LINES bytes ≡ Some refusal)
@@ -93,6 +93,7 @@ first_failing laws bytes input none = of_first (first_fault ALL_LINES bytes) ref
 
 -- `show`, `rewrite` and `audit` refuse it
 pub no_drawing_is_refused : DrawingLaws → NoDrawingIsRefused
+unfolding row_of
 no_drawing_is_refused laws bytes input none =
     let fails = first_failing laws bytes input none in (
       record { refusal = fails.0; first = fails.1; answers = show_said bytes input ∙ refused Show bytes fails.0 fails.1 },
@@ -106,13 +107,13 @@ read_is laws drawing bytes are spelled = laws.one bytes (drawing_at bytes) drawi
 
 -- `show` prints its text
 pub show_prints_drawing : DrawingLaws → ShowPrintsDrawing
-unfolding outcome_passing
+unfolding row_of
 show_prints_drawing laws drawing bytes input spelled =
     show_said bytes input ∙ passed Show bytes (laws.passes bytes drawing input.are spelled) ∙ ap (λ one. printed (show_text one)) (read_is laws drawing bytes input.are spelled)
 
 -- `rewrite` answers its file, whatever its size
 rewrite_is_written : DrawingLaws → (drawing : Contents) (bytes : List ℕ) → IsInput bytes → Spelled drawing bytes → said (codes "rewrite") bytes ≡ written drawing
-unfolding outcome_passing
+unfolding row_of
 rewrite_is_written laws drawing bytes input spelled =
     rewrite_said bytes input ∙ passed Rewrite bytes (laws.passes bytes drawing input.are spelled) ∙ ap written (read_is laws drawing bytes input.are spelled)
 
@@ -203,7 +204,7 @@ verdict_reports drawing (finding ∷ more) answer found is sound = record {
 
 -- `audit` reports whether the drawing is sound
 pub audit_reports_sound : DrawingLaws → ValidIsAuditable → NothingIsFoundIfSound → AuditReportsSound
-unfolding outcome_passing audited
+unfolding row_of audited
 audit_reports_sound laws auditable sound drawing bytes input spelled =
     let valid = laws.valid bytes drawing input.are input.within spelled in
     let is : said (codes "audit") bytes ≡ audited drawing =
@@ -212,7 +213,7 @@ audit_reports_sound laws auditable sound drawing bytes input spelled =
 
 -- `recover` tries no line
 pub recover_is : (bytes : List ℕ) → IsInput bytes → said (codes "recover") bytes ≡ recovered_outcome (recovered bytes)
-unfolding outcome_passing
+unfolding row_of
 recover_is bytes input = recover_said bytes input ∙ passed Recover bytes refl
 
 -- of what is recovered whole it answers the file

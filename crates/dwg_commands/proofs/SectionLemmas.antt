@@ -4,7 +4,7 @@ use Rattle.std.specs.Option.{option_or}
 use Rattle.std.specs.Prelude.{Ok, unwrap_or}
 use Rattle.std.specs.Result.{result_unwrap_or}
 use Rattle.dwg_base.specs.Refusals.{RefusalRow, Tried, fault_of, first_fault}
-use Rattle.dwg_base.specs.declared.refusal.Refusal.{Refusal}
+use Rattle.dwg_base.specs.Refusal.{Refusal}
 use Rattle.dwg_classes.specs.Class.{AreClasses}
 use Rattle.dwg_classes.specs.ClassLines.{tried_classes}
 use Rattle.dwg_classes.specs.declared.class.Class.{Class}
@@ -20,10 +20,11 @@ use Rattle.dwg_sections.specs.HeaderLines.{HEADER_LINES, header_at, place_of}
 use Rattle.dwg_text.specs.Classes.{classes_text}
 use Rattle.dwg_text.specs.Sections.{sections_text}
 use Rattle.dwg_commands.specs.declared.outcome.Outcome.{Outcome}
-use Rattle.dwg_commands.specs.declared.words.Reading.{Reading}
-use Rattle.dwg_commands.specs.declared.words.Reading.TheVariants.{Sections, Classes}
-use Rattle.dwg_commands.specs.Lines.{lines_of}
-use Rattle.dwg_commands.specs.Outcome.{printed, outcome_passing, outcome_within}
+use Rattle.dwg_commands.specs.declared.words.Command.{Command}
+use Rattle.dwg_commands.specs.declared.words.Command.TheVariants.{Sections, Classes}
+use Rattle.dwg_commands.specs.Commands.{READERS, lines_of, row_of}
+use Rattle.dwg_commands.specs.Answered.{printed}
+use Rattle.dwg_commands.specs.Outcome.{outcome_within}
 use Rattle.dwg_commands.specs.OutcomeLaws.{IsInput, HasClasses, RefusesBy, said, SectionsPrintsHeader, NoHeaderIsRefused, ClassesPrintsClasses, NoClassesAreRefused}
 use Rattle.dwg_commands.specs.Words.{command_of, reading_of}
 use Rattle.dwg_commands.proofs.OutcomeLaws.{of_input, passed, refused}
@@ -40,29 +41,30 @@ pub record PartLaws : Type 0 where
 
 -- each of these words names its command
 sections_said : (bytes : List ℕ) → IsInput bytes → said (codes "sections") bytes ≡ outcome_within Sections bytes
-unfolding command_of reading_of
-sections_said bytes input = of_input Sections bytes input
+unfolding command_of reading_of READERS row_of
+sections_said bytes input = of_input Sections bytes input refl
 
 classes_said : (bytes : List ℕ) → IsInput bytes → said (codes "classes") bytes ≡ outcome_within Classes bytes
-unfolding command_of reading_of
-classes_said bytes input = of_input Classes bytes input
+unfolding command_of reading_of READERS row_of
+classes_said bytes input = of_input Classes bytes input refl
 
 -- where none of a command's lines fails there is something, or else one of them does
-refuses : (reading : Reading) (bytes : List ℕ) (answer : Outcome) → answer ≡ outcome_within reading bytes → (first_fault (lines_of reading) bytes ≡ None → ⊥) → RefusesBy (lines_of reading) bytes answer
-refuses reading bytes answer is some = of_first (first_fault (lines_of reading) bytes) refl
+refuses : (command : Command) (bytes : List ℕ) (answer : Outcome) → answer ≡ outcome_within command bytes → (first_fault (lines_of command) bytes ≡ None → ⊥) → RefusesBy (lines_of command) bytes answer
+refuses command bytes answer is some = of_first (first_fault (lines_of command) bytes) refl
   where
-    of_first : (first : Option Refusal) → first_fault (lines_of reading) bytes ≡ first → RefusesBy (lines_of reading) bytes answer
-    of_first (Some refusal) fails = record { refusal = refusal; first = fails; answers = is ∙ refused reading bytes refusal fails }
+    of_first : (first : Option Refusal) → first_fault (lines_of command) bytes ≡ first → RefusesBy (lines_of command) bytes answer
+    of_first (Some refusal) fails = record { refusal = refusal; first = fails; answers = is ∙ refused command bytes refusal fails }
     of_first None holds = absurd (some holds)
 
 -- `sections` prints the header
 pub sections_prints_header : PartLaws → SectionsPrintsHeader
-unfolding outcome_passing
+unfolding row_of
 sections_prints_header laws header bytes input begins =
     let read = laws.header bytes header begins in
     sections_said bytes input ∙ passed Sections bytes read.0 ∙ ap (λ (one : FileHeader). printed (sections_text one)) (sym read.1)
 
 pub no_header_is_refused : PartLaws → NoHeaderIsRefused
+unfolding row_of
 no_header_is_refused laws bytes input none =
     refuses Sections bytes (said (codes "sections") bytes) (sections_said bytes input) (λ holds. none (header_at bytes) (laws.begins bytes input.are holds))
 
@@ -93,6 +95,7 @@ unfolding classes_row
 classes_hold laws classes bytes has = ap (λ (tried : Tried (List Class)). fault_of tried) (classes_are_tried laws classes bytes has)
 
 lines_hold : PartLaws → (classes : List Class) (bytes : List ℕ) → HasClasses bytes classes → first_fault (lines_of Classes) bytes ≡ None
+unfolding row_of
 lines_hold laws classes bytes has =
     both_rows HEADER_LINES (classes_section_row ∷ classes_row ∷ []) bytes (laws.header bytes has.header has.begins).0
     (both_rows (classes_section_row ∷ []) (classes_row ∷ []) bytes (one_holds classes_section_row (section_holds laws classes bytes has)) (one_holds classes_row (classes_hold laws classes bytes has)))
@@ -102,14 +105,14 @@ lines_hold laws classes bytes has =
 
 -- `classes` prints them
 pub classes_prints_classes : PartLaws → ClassesPrintsClasses
-unfolding outcome_passing
+unfolding row_of
 classes_prints_classes laws classes bytes input has =
     classes_said bytes input ∙ passed Classes bytes (lines_hold laws classes bytes has)
     ∙ ap (λ (tried : Tried (List Class)). printed (classes_text (result_unwrap_or tried []))) (classes_are_tried laws classes bytes has)
 
 -- where no line fails an input has classes
 passing_has_classes : PartLaws → (bytes : List ℕ) → IsInput bytes → first_fault (lines_of Classes) bytes ≡ None → (classes : List Class) × HasClasses bytes classes
-unfolding classes_section_row classes_row classes_tried
+unfolding classes_section_row classes_row classes_tried row_of
 passing_has_classes laws bytes input holds =
     let parts = rows_both HEADER_LINES (classes_section_row ∷ classes_row ∷ []) bytes holds in
     let rows = rows_both (classes_section_row ∷ []) (classes_row ∷ []) bytes parts.1 in
@@ -138,6 +141,7 @@ passing_has_classes laws bytes input holds =
         go (Some refusal) is holds_all = absurd (cc (sym (ap (λ (o : Option Refusal). option_or o None) is) ∙ holds_all))
 
 pub no_classes_are_refused : PartLaws → NoClassesAreRefused
+unfolding row_of
 no_classes_are_refused laws bytes input none =
     refuses Classes bytes (said (codes "classes") bytes) (classes_said bytes input)
     (λ holds. let has = passing_has_classes laws bytes input holds in none has.0 has.1)

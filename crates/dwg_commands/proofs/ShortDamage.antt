@@ -1,7 +1,7 @@
 -- What is answered of a canonical file with a short change in one object's frame.
 use Rattle.std.proofs.Common.{◌≡◌, ap, ◌∙◌, ℕ, List, [], ◌∷◌, codes, Some, arith}
 use Rattle.dwg_base.specs.Refusals.{first_fault}
-use Rattle.dwg_base.specs.declared.refusal.Refusal.{Refusal}
+use Rattle.dwg_base.specs.Refusal.{Refusal}
 use Rattle.dwg_file.specs.CanonicalLaws.{CanonicalIsCounted}
 use Rattle.dwg_file.specs.FileLines.{ALL_LINES}
 use Rattle.dwg_file.specs.ShortDamage.{AllElseIsSame, ShortDamageIsRefused}
@@ -11,8 +11,9 @@ use Rattle.dwg_recover.specs.Recovering.{recovered}
 use Rattle.dwg_recover.specs.ShortDamage.{CostsOneObject, ShortDamageCostsOneObject, word_refusal}
 use Rattle.dwg_messages.specs.RecoveryNote.{recovery_note}
 use Rattle.dwg_commands.specs.declared.status.Status.TheVariants.{Found}
-use Rattle.dwg_commands.specs.declared.words.Reading.TheVariants.{Show, Rewrite, Audit}
-use Rattle.dwg_commands.specs.Outcome.{filed}
+use Rattle.dwg_commands.specs.declared.words.Command.TheVariants.{Show, Rewrite, Audit}
+use Rattle.dwg_commands.specs.Commands.{row_of}
+use Rattle.dwg_commands.specs.Answered.{filed}
 use Rattle.dwg_commands.specs.OutcomeLaws.{IsInput, ShortDamageIsReported, said}
 use Rattle.dwg_commands.proofs.OutcomeLaws.{audit_said, damaged_is, filed_large, filed_within, recover_is, refused, rewrite_said, show_said}
 
@@ -25,6 +26,7 @@ recover_files bytes refusal losses input reported lost =
 
 -- so it is answered
 pub short_damage_is_reported : CanonicalIsCounted → ShortDamageIsRefused → AllElseIsSame → ShortDamageCostsOneObject → ShortDamageIsReported
+unfolding row_of
 short_damage_is_reported counted refuses same costs drawing bytes earlier frame later is small are whole damaged = record {
   show = show_said bytes input ∙ refused Show bytes refusal first;
   rewrite = rewrite_said bytes input ∙ refused Rewrite bytes refusal first;

@@ -1,11 +1,13 @@
 -- The exit status that reports how a run ended.
 pub mod Status
--- The words of the command line, and which commands read the input.
-pub mod Words
 -- What an input is that a certificate and a drawing are.
 pub mod CertifiedInput
--- The lines of the table of refusals that each command tries.
-pub mod Lines
+-- What is answered of what was read, recovered or made.
+pub mod Answered
+-- The table of commands: the word of each, whether it reads the input, the lines that it tries, and what it answers.
+pub mod Commands
+-- The words of the command line, and which commands read the input.
+pub mod Words
 -- What the program answers to its words and its input.
 pub mod Outcome
 -- What the program is asked, and which outcome that asks for.

@@ -8,7 +8,7 @@ use Rattle.dwg_audit.specs.Findings.{findings}
 use Rattle.dwg_base.specs.Bytes.{AreBytes}
 use Rattle.dwg_base.specs.Devices.{MOST_BYTES}
 use Rattle.dwg_base.specs.Refusals.{RefusalRow, first_fault}
-use Rattle.dwg_base.specs.declared.refusal.Refusal.{Refusal}
+use Rattle.dwg_base.specs.Refusal.{Refusal}
 use Rattle.dwg_cert.specs.Accepts.{Accepts}
 use Rattle.dwg_cert.specs.CertificateLines.{CERTIFICATE_LINES}
 use Rattle.dwg_cert.specs.Certified.{certificate_of}

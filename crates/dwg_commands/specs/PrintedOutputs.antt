@@ -10,7 +10,7 @@ use Rattle.dwg_commands.specs.declared.status.Status.{Status}
 use Rattle.dwg_commands.specs.declared.status.Status.TheVariants.{Done}
 use Rattle.dwg_commands.specs.declared.printed_output.PrintedOutput.{PrintedOutput}
 use Rattle.dwg_commands.specs.declared.printed_output.PrintedOutput.TheVariants as texts
-use Rattle.dwg_commands.specs.Outcome.{verdict_status}
+use Rattle.dwg_commands.specs.Answered.{verdict_status}
 
 -- the text
 abbrev pub text_of : PrintedOutput → List ℕ

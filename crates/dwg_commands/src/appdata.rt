@@ -10,7 +10,7 @@ ghost use Rattle.dwg_commands.specs.Pendings.{comes_to, IsRefused};
 use crate::drawings::drawing_of;
 use crate::pending::Pending;
 use crate::printed_output::PrintedOutput;
-use crate::words::Reading;
+use crate::words::Command;
 use dwg_appitems::{AppFinding, app_audit};
 use dwg_audit::auditable_laws;
 use dwg_base::{Fault, Items, NoMemory};
@@ -45,15 +45,13 @@ fn audit_items(alloc: Global, drawing: &Drawing<'_>) -> Result<Items<AppFinding>
 }
 
 /// What `appdata` answers.
-#[tactic(auto, unfolding(crate::specs::Outcome::outcome_within, crate::specs::Outcome::outcome_passing, crate::specs::Outcome::items_reported))]
+#[tactic(auto, unfolding(crate::specs::Outcome::outcome_within, crate::specs::Commands::row_of, crate::specs::Answered::items_reported))]
 pub(crate) fn appdata_pending<'a>(alloc: Global, bytes: &'a [u8]) -> Result<Pending<'a>, Fault>
     requires { length bytes.now ≤ MOST_BYTES }
-    ensures reported { IfOk result (λ pending. comes_to pending ≡ outcome_within Reading.Appdata bytes.now) }
-    ensures refused { IfErr result (λ fault. IsRefused Reading.Appdata bytes.now fault) }
+    ensures reported { IfOk result (λ pending. comes_to pending ≡ outcome_within Command.Appdata bytes.now) }
+    ensures refused { IfErr result (λ fault. IsRefused Command.Appdata bytes.now fault) }
 {
     let drawing = drawing_of(alloc, bytes)?;
-    match audit_items(alloc, &drawing) {
-        Ok(findings) => Ok(Pending::Text(PrintedOutput::Items { drawing, findings })),
-        Err(NoMemory) => Err(Fault::NoMemory),
-    }
+    let findings = audit_items(alloc, &drawing)?;
+    Ok(Pending::Text(PrintedOutput::Items { drawing, findings }))
 }

@@ -8,21 +8,19 @@ ghost use Rattle.dwg_commands.specs.Pendings.{comes_to, IsRefused};
 use crate::drawings::drawing_of;
 use crate::pending::Pending;
 use crate::printed_output::PrintedOutput;
-use crate::words::Reading;
+use crate::words::Command;
 use dwg_audit::audit_drawing;
-use dwg_base::{Fault, NoMemory};
+use dwg_base::Fault;
 use std::alloc::Global;
 
 /// What `audit` answers.
-#[tactic(auto, unfolding(crate::specs::Outcome::outcome_within, crate::specs::Outcome::outcome_passing, crate::specs::Outcome::audited))]
+#[tactic(auto, unfolding(crate::specs::Outcome::outcome_within, crate::specs::Commands::row_of, crate::specs::Answered::audited))]
 pub(crate) fn audit_pending<'a>(alloc: Global, bytes: &'a [u8]) -> Result<Pending<'a>, Fault>
     requires { length bytes.now ≤ MOST_BYTES }
-    ensures reported { IfOk result (λ pending. comes_to pending ≡ outcome_within Reading.Audit bytes.now) }
-    ensures refused { IfErr result (λ fault. IsRefused Reading.Audit bytes.now fault) }
+    ensures reported { IfOk result (λ pending. comes_to pending ≡ outcome_within Command.Audit bytes.now) }
+    ensures refused { IfErr result (λ fault. IsRefused Command.Audit bytes.now fault) }
 {
     let drawing = drawing_of(alloc, bytes)?;
-    match audit_drawing(alloc, &drawing) {
-        Ok(findings) => Ok(Pending::Text(PrintedOutput::Findings(findings))),
-        Err(NoMemory) => Err(Fault::NoMemory),
-    }
+    let findings = audit_drawing(alloc, &drawing)?;
+    Ok(Pending::Text(PrintedOutput::Findings(findings)))
 }

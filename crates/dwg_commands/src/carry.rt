@@ -5,12 +5,13 @@ ghost use Rattle.dwg_base.specs.Devices.{MOST_BYTES};
 ghost use Rattle.dwg_file.specs.Canonical.{NO_PICTURE, carried_of};
 ghost use Rattle.dwg_preview.specs.ContentAt.{content_of};
 ghost use Rattle.dwg_preview.specs.Previews.{IsContent};
-ghost use Rattle.dwg_commands.specs.Outcome.{carrying_note, outcome_within};
+ghost use Rattle.dwg_commands.specs.Answered.{carrying_note};
+ghost use Rattle.dwg_commands.specs.Outcome.{outcome_within};
 ghost use Rattle.dwg_commands.specs.Pendings.{comes_to, IsRefused};
 
 use crate::drawings::drawing_of;
 use crate::pending::{Noting, Pending};
-use crate::words::Reading;
+use crate::words::Command;
 use dwg_base::{Fault, bytes_with_range};
 use dwg_preview::{Preview, read_preview};
 use dwg_sections::read_file_header;
@@ -64,11 +65,11 @@ fn note_of(preview: &Option<Preview<'_>>) -> &'static [u8]
 }
 
 /// What `carry` answers.
-#[tactic(auto, unfolding(crate::specs::Outcome::outcome_within, crate::specs::Outcome::outcome_passing))]
+#[tactic(auto, unfolding(crate::specs::Outcome::outcome_within, crate::specs::Commands::row_of))]
 pub(crate) fn carry_pending<'a>(alloc: Global, bytes: &'a [u8]) -> Result<Pending<'a>, Fault>
     requires { length bytes.now ≤ MOST_BYTES }
-    ensures reported { IfOk result (λ pending. comes_to pending ≡ outcome_within Reading.Carry bytes.now) }
-    ensures refused { IfErr result (λ fault. IsRefused Reading.Carry bytes.now fault) }
+    ensures reported { IfOk result (λ pending. comes_to pending ≡ outcome_within Command.Carry bytes.now) }
+    ensures refused { IfErr result (λ fault. IsRefused Command.Carry bytes.now fault) }
 {
     let drawing = drawing_of(alloc, bytes)?;
     let header = read_file_header(alloc, bytes)?;

@@ -12,15 +12,16 @@ ghost use Rattle.dwg_cert.specs.WrittenForm.{certificate_bytes};
 ghost use Rattle.dwg_file.specs.Contents.{contents_of};
 ghost use Rattle.dwg_file.specs.DrawingAt.{drawing_at};
 ghost use Rattle.dwg_commands.specs.CertifiedInput.{cert_in, drawing_bytes};
-ghost use Rattle.dwg_commands.specs.Lines.{lines_of};
-ghost use Rattle.dwg_commands.specs.Outcome.{acceptance, acceptance_line, acceptance_status, accepted, certified, outcome_within};
+ghost use Rattle.dwg_commands.specs.Commands.{lines_of};
+ghost use Rattle.dwg_commands.specs.Answered.{acceptance, acceptance_line, acceptance_status, accepted, certified};
+ghost use Rattle.dwg_commands.specs.Outcome.{outcome_within};
 ghost use Rattle.dwg_commands.specs.Pendings.{comes_to, IsRefused};
 
 use crate::drawings::drawing_of;
 use crate::outcome::printed_outcome;
 use crate::pending::Pending;
 use crate::status::Status;
-use crate::words::Reading;
+use crate::words::Command;
 use dwg_audit::auditable_laws;
 use dwg_base::{ByteRun, Fault, NoMemory, bytes_after, bytes_with_range};
 use dwg_bits::BitSink;
@@ -91,17 +92,14 @@ fn certified_pending<'a>(alloc: Global, drawing: &Drawing<'_>) -> Result<Pending
 }
 
 /// What `certify` answers.
-#[tactic(auto, unfolding(crate::specs::Outcome::outcome_within, crate::specs::Outcome::outcome_passing))]
+#[tactic(auto, unfolding(crate::specs::Outcome::outcome_within, crate::specs::Commands::row_of))]
 pub(crate) fn certify_pending<'a>(alloc: Global, bytes: &'a [u8]) -> Result<Pending<'a>, Fault>
     requires { length bytes.now ≤ MOST_BYTES }
-    ensures reported { IfOk result (λ pending. comes_to pending ≡ outcome_within Reading.Certify bytes.now) }
-    ensures refused { IfErr result (λ fault. IsRefused Reading.Certify bytes.now fault) }
+    ensures reported { IfOk result (λ pending. comes_to pending ≡ outcome_within Command.Certify bytes.now) }
+    ensures refused { IfErr result (λ fault. IsRefused Command.Certify bytes.now fault) }
 {
     let drawing = drawing_of(alloc, bytes)?;
-    match certified_pending(alloc, &drawing) {
-        Ok(pending) => Ok(pending),
-        Err(NoMemory) => Err(Fault::NoMemory),
-    }
+    Ok(certified_pending(alloc, &drawing)?)
 }
 
 /// Whether a certificate is one of a drawing's objects. Err: out of memory.
@@ -143,7 +141,7 @@ fn acceptance_pending<'a>(is: bool) -> Pending<'a>
 }
 
 /// What is answered of a certificate before a drawing. Err: out of memory.
-#[tactic(auto, unfolding(crate::specs::Outcome::accepted))]
+#[tactic(auto, unfolding(crate::specs::Answered::accepted))]
 fn accepted_pending<'a>(
     alloc: Global,
     drawing: &Drawing<'_>,
@@ -162,7 +160,7 @@ fn certificate_before(alloc: Global, bytes: &[u8]) -> Result<ReadCertificate, Fa
     ensures after { IfOk result (λ read. drop read.end bytes.now ≡ drawing_bytes bytes.now) }
     ensures within { IfOk result (λ read. read.end ≤ length bytes.now) }
     ensures holds { OnOk result (first_fault CERTIFICATE_LINES bytes.now ≡ None) }
-    ensures refused { IfErr result (λ fault. IsRefused Reading.Accept bytes.now fault) }
+    ensures refused { IfErr result (λ fault. IsRefused Command.Accept bytes.now fault) }
 {
     read_certificate(alloc, bytes)
 }
@@ -175,23 +173,20 @@ fn drawing_after<'a>(alloc: Global, bytes: &'a [u8], end: usize) -> Result<Drawi
     requires after { drop end bytes.now ≡ drawing_bytes bytes.now }
     requires passes { first_fault CERTIFICATE_LINES bytes.now ≡ None }
     ensures drawing { IfOk result (λ drawing. contents_of drawing ≡ drawing_at (drawing_bytes bytes.now)) }
-    ensures holds { OnOk result (first_fault (lines_of Reading.Accept) bytes.now ≡ None) }
-    ensures refused { IfErr result (λ fault. IsRefused Reading.Accept bytes.now fault) }
+    ensures holds { OnOk result (first_fault (lines_of Command.Accept) bytes.now ≡ None) }
+    ensures refused { IfErr result (λ fault. IsRefused Command.Accept bytes.now fault) }
 {
     drawing_of(alloc, bytes_after(bytes, end))
 }
 
 /// What `accept` answers.
-#[tactic(auto, unfolding(crate::specs::Outcome::outcome_within, crate::specs::Outcome::outcome_passing))]
+#[tactic(auto, unfolding(crate::specs::Outcome::outcome_within, crate::specs::Commands::row_of))]
 pub(crate) fn accept_pending<'a>(alloc: Global, bytes: &'a [u8]) -> Result<Pending<'a>, Fault>
     requires { length bytes.now ≤ MOST_BYTES }
-    ensures reported { IfOk result (λ pending. comes_to pending ≡ outcome_within Reading.Accept bytes.now) }
-    ensures refused { IfErr result (λ fault. IsRefused Reading.Accept bytes.now fault) }
+    ensures reported { IfOk result (λ pending. comes_to pending ≡ outcome_within Command.Accept bytes.now) }
+    ensures refused { IfErr result (λ fault. IsRefused Command.Accept bytes.now fault) }
 {
     let read = certificate_before(alloc, bytes)?;
     let drawing = drawing_after(alloc, bytes, read.end)?;
-    match accepted_pending(alloc, &drawing, &read.certificate) {
-        Ok(pending) => Ok(pending),
-        Err(NoMemory) => Err(Fault::NoMemory),
-    }
+    Ok(accepted_pending(alloc, &drawing, &read.certificate)?)
 }

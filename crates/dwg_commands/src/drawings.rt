@@ -7,12 +7,12 @@ ghost use Rattle.dwg_file.specs.Contents.{contents_of};
 ghost use Rattle.dwg_file.specs.DrawingAt.{drawing_at};
 ghost use Rattle.dwg_file.specs.FileLines.{ALL_LINES};
 ghost use Rattle.dwg_commands.specs.Outcome.{outcome_within};
-ghost use Rattle.dwg_commands.specs.Pendings.{comes_to, IsRefused};
+ghost use Rattle.dwg_commands.specs.Pendings.{comes_to, IsRefused, IsRefusedBy};
 
 use crate::carry::Carrying;
 use crate::pending::{Noting, Pending};
 use crate::printed_output::PrintedOutput;
-use crate::words::Reading;
+use crate::words::Command;
 use dwg_base::Fault;
 use dwg_file::{Drawing, drawing_laws, read_drawing};
 use std::alloc::Global;
@@ -23,32 +23,30 @@ pub(crate) fn drawing_of<'a>(alloc: Global, bytes: &'a [u8]) -> Result<Drawing<'
     ensures drawing { IfOk result (λ drawing. contents_of drawing ≡ drawing_at bytes.now) }
     ensures holds { OnOk result (first_fault ALL_LINES bytes.now ≡ None) }
     ensures few { IfOk result (λ drawing. length (contents_of drawing).objects ≤ MOST_BYTES) }
-    ensures refused { IfErr result (λ fault. IsRefused Reading.Rewrite bytes.now fault) }
+    ensures refused { IfErr result (λ fault. IsRefusedBy ALL_LINES bytes.now fault) }
 {
     drawing_laws();
-    match read_drawing(alloc, bytes) {
-        Ok(drawing) => Ok(drawing),
-        Err(fault) => Err(fault),
-    }
+    let drawing = read_drawing(alloc, bytes)?;
+    Ok(drawing)
 }
 
 /// What `show` answers.
-#[tactic(auto, unfolding(crate::specs::Outcome::outcome_within, crate::specs::Outcome::outcome_passing))]
+#[tactic(auto, unfolding(crate::specs::Outcome::outcome_within, crate::specs::Commands::row_of))]
 pub(crate) fn show_pending<'a>(alloc: Global, bytes: &'a [u8]) -> Result<Pending<'a>, Fault>
     requires { length bytes.now ≤ MOST_BYTES }
-    ensures reported { IfOk result (λ pending. comes_to pending ≡ outcome_within Reading.Show bytes.now) }
-    ensures refused { IfErr result (λ fault. IsRefused Reading.Show bytes.now fault) }
+    ensures reported { IfOk result (λ pending. comes_to pending ≡ outcome_within Command.Show bytes.now) }
+    ensures refused { IfErr result (λ fault. IsRefused Command.Show bytes.now fault) }
 {
     let drawing = drawing_of(alloc, bytes)?;
     Ok(Pending::Text(PrintedOutput::Drawing(drawing)))
 }
 
 /// What `rewrite` answers.
-#[tactic(auto, unfolding(crate::specs::Outcome::outcome_within, crate::specs::Outcome::outcome_passing))]
+#[tactic(auto, unfolding(crate::specs::Outcome::outcome_within, crate::specs::Commands::row_of))]
 pub(crate) fn rewrite_pending<'a>(alloc: Global, bytes: &'a [u8]) -> Result<Pending<'a>, Fault>
     requires { length bytes.now ≤ MOST_BYTES }
-    ensures reported { IfOk result (λ pending. comes_to pending ≡ outcome_within Reading.Rewrite bytes.now) }
-    ensures refused { IfErr result (λ fault. IsRefused Reading.Rewrite bytes.now fault) }
+    ensures reported { IfOk result (λ pending. comes_to pending ≡ outcome_within Command.Rewrite bytes.now) }
+    ensures refused { IfErr result (λ fault. IsRefused Command.Rewrite bytes.now fault) }
 {
     let drawing = drawing_of(alloc, bytes)?;
     Ok(Pending::File {

@@ -1,14 +1,16 @@
 //! What the words and the input ask for.
 
-ghost use Rattle.std.specs.Prelude.{◌≡◌, ◌+◌, ◌≤◌, ◌⊎◌, IfOk, OnErr, length, List, Some, IsErrOf, None, ℕ};
+ghost use Rattle.std.specs.Prelude.{◌≡◌, ◌+◌, ◌≤◌, ◌⊎◌, IfOk, OnErr, length, List, Some, IsErrOf, IsTrue, ℕ};
 ghost use Rattle.dwg_base.specs.Devices.{Came, Rose, MOST_BYTES};
+ghost use Rattle.dwg_commands.specs.Commands.{reads};
 ghost use Rattle.dwg_commands.specs.Words.{texts as words_of, command_of, IsReading, IsUsage};
 ghost use Rattle.dwg_commands.specs.Outcome.{outcome_of_input, outcome};
 ghost use Rattle.dwg_commands.specs.Jobs.{asked, IsWithin};
 ghost use Rattle.dwg_commands.specs.Run.{Feeds, IsSettled, IsDrained, IsDrainedSource};
 
+use crate::outcome::no_bytes;
 use crate::status::Status;
-use crate::words::{Command, Reading, read_words, reading_in};
+use crate::words::{Command, read_words, reads};
 use dwg_base::{ByteRun, Intake, LIMIT, Source, read_all};
 use std::alloc::Global;
 
@@ -19,23 +21,11 @@ pub enum Job {
     Usage,
     /// What it says to an input that is longer than the limit.
     TooLong,
-    /// A drawing that is made of two numbers.
-    Make {
-        /// How many entities follow its fixed objects.
-        n: u32,
-        /// The seed of its random numbers.
-        seed: u32,
-    },
-    /// A drill with a drawing that is made of a number.
-    Drill {
-        /// How many entities follow its fixed objects.
-        n: u32,
-    },
-    /// What a command that reads says to an input within the limit.
-    Read {
+    /// What a command says to an input within the limit.
+    Run {
         /// The command.
-        reading: Reading,
-        /// The input.
+        command: Command,
+        /// The input, and no bytes where the command doesn't read it.
         bytes: ByteRun,
     },
 }
@@ -50,9 +40,10 @@ pub enum Stop {
 }
 
 /// What the input asks of a command that reads.
-fn job_from<R: Source>(alloc: Global, reading: Reading, input: &mut R) -> Result<Job, Stop>
-    ensures answered { IfOk result (λ job. (bytes : List ℕ) → R.left input.old ≡ Some bytes → asked job ≡ outcome_of_input reading bytes) }
-    ensures came { IfOk result (λ job. Came (R.left input.old) (R.left input.new) (λ came. (length came ≤ MOST_BYTES + 1) × (asked job ≡ outcome_of_input reading came))) }
+fn job_from<R: Source>(alloc: Global, command: Command, input: &mut R) -> Result<Job, Stop>
+    requires { IsTrue (reads command) }
+    ensures answered { IfOk result (λ job. (bytes : List ℕ) → R.left input.old ≡ Some bytes → asked job ≡ outcome_of_input command bytes) }
+    ensures came { IfOk result (λ job. Came (R.left input.old) (R.left input.new) (λ came. (length came ≤ MOST_BYTES + 1) × (asked job ≡ outcome_of_input command came))) }
     ensures gone { OnErr result (Came (R.left input.old) (R.left input.new) (λ came. length came ≤ MOST_BYTES + 1)) }
     ensures within { IfOk result (λ job. IsWithin job) }
     ensures status { IfOk result (λ job. ((asked job).status ≡ Status.TooLong) ⊎ IsDrained (asked job).status) }
@@ -63,7 +54,7 @@ fn job_from<R: Source>(alloc: Global, reading: Reading, input: &mut R) -> Result
     ensures drained { IfOk result (λ job. IsDrained (asked job).status → IsDrainedSource (R.left input.old) (R.left input.new)) }
 {
     match read_all(alloc, input, LIMIT) {
-        Ok(bytes) => Ok(Job::Read { reading, bytes }),
+        Ok(bytes) => Ok(Job::Run { command, bytes }),
         Err(Intake::TooLong) => Ok(Job::TooLong),
         Err(Intake::ReadFault) => Err(Stop::ReadFault),
         Err(Intake::NoMemory) => Err(Stop::NoMemory),
@@ -91,11 +82,15 @@ pub fn job_for<R: Source>(alloc: Global, words: &[String], input: &mut R) -> Res
 {
     match read_words(words) {
         None => Ok(Job::Usage),
-        Some(Command::Make { n, seed }) => Ok(Job::Make { n, seed }),
-        Some(Command::Drill { n }) => Ok(Job::Drill { n }),
-        Some(command) => match reading_in(command) {
-            Some(reading) => job_from(alloc, reading, input),
-            None => unreachable!(),
-        },
+        Some(command) => {
+            if reads(command) {
+                job_from(alloc, command, input)
+            } else {
+                Ok(Job::Run {
+                    command,
+                    bytes: no_bytes(alloc),
+                })
+            }
+        }
     }
 }

@@ -25,4 +25,4 @@ pub use laws::outcome_laws;
 pub use outcome::Outcome;
 pub use running::run_job;
 pub use status::Status;
-pub use words::{Command, Reading, read_words};
+pub use words::{Command, read_words};

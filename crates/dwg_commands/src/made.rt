@@ -2,7 +2,7 @@
 
 ghost use Rattle.std.specs.Prelude.{◌≡◌, ◌≤◌, IfOk, IsErrOf, OnOk};
 ghost use Rattle.dwg_base.specs.Devices.{Rose, Sends};
-ghost use Rattle.dwg_commands.specs.Outcome.{drill_outcome, made_outcome, noted};
+ghost use Rattle.dwg_commands.specs.Answered.{drill_outcome, made_outcome, noted};
 ghost use Rattle.dwg_text.specs.Notes as texts;
 ghost use Rattle.dwg_commands.specs.Pendings.{comes_to};
 
@@ -26,15 +26,12 @@ pub(crate) struct Drilled {
 }
 
 impl Model for Drilled {
-    ghost use Rattle.std.specs.Prelude.{List, ℕ, IfSome};
-    ghost use Rattle.dwg_base.specs.Refusals.{IsOfTable};
+    ghost use Rattle.std.specs.Prelude.{List, ℕ};
     ghost use Rattle.dwg_messages.specs.DrillText.{drill_text};
 
     ghost Value = { List ℕ };
 
     ghost view = { λ drilled. drill_text drilled.report };
-
-    ghost invariant = { λ drilled. IfSome drilled.report.fault IsOfTable };
 }
 
 impl Drilled {

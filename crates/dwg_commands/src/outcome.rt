@@ -1,9 +1,8 @@
 //! The outcome of a run: bytes for the output, a note, and how the run ends.
 
 ghost use Rattle.std.specs.Prelude.{◌≡◌, [], IfOk};
-ghost use Rattle.dwg_base.specs.Refusals.{IsOfTable};
 ghost use Rattle.dwg_text.specs.Notes as texts;
-ghost use Rattle.dwg_commands.specs.Outcome.{noted, printed};
+ghost use Rattle.dwg_commands.specs.Answered.{noted, printed};
 
 use crate::status::Status;
 use dwg_base::{ByteRun, NoMemory, Refusal};
@@ -41,7 +40,6 @@ pub(crate) fn printed_outcome(alloc: Global, output: ByteRun) -> Outcome
 
 /// The outcome of a refusal.
 pub(crate) fn refused_outcome(alloc: Global, refusal: Refusal) -> Result<Outcome, NoMemory>
-    requires { IsOfTable refusal }
     ensures { IfOk result (λ outcome. outcome ≡ noted (texts.refusal_note refusal) (Status.Refused refusal)) }
 {
     Ok(Outcome {

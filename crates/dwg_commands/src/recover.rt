@@ -2,14 +2,14 @@
 
 ghost use Rattle.std.specs.Prelude.{◌≡◌, ◌≤◌, IfOk, IfSome, IsErrOf, OnOk, length};
 ghost use Rattle.dwg_base.specs.Devices.{MOST_BYTES, Rose, Sends};
-ghost use Rattle.dwg_base.specs.Refusals.{IsOfTable};
 ghost use Rattle.dwg_recover.specs.Results.{recovered_value};
-ghost use Rattle.dwg_commands.specs.Outcome.{outcome_within, recovered_outcome, recovery_notes, recovery_status};
+ghost use Rattle.dwg_commands.specs.Answered.{recovered_outcome, recovery_notes, recovery_status};
+ghost use Rattle.dwg_commands.specs.Outcome.{outcome_within};
 ghost use Rattle.dwg_commands.specs.Pendings.{comes_to, ends_by, note_of};
 
 use crate::carry::Carrying;
 use crate::pending::{Noting, Pending};
-use crate::words::Reading;
+use crate::words::Command;
 use dwg_base::{Items, NoMemory, Refusal, Sink};
 use dwg_messages::print_recovery;
 use dwg_recover::{Kept, Loss, Recovered, recover_input};
@@ -27,14 +27,11 @@ pub(crate) struct RecoveryNote {
 
 impl Model for RecoveryNote {
     ghost use Rattle.std.specs.Prelude.{List, ℕ};
-    ghost use Rattle.dwg_base.specs.Refusals.{IsOfTable};
     ghost use Rattle.dwg_messages.specs.RecoveryNote.{recovery_note};
 
     ghost Value = { List ℕ };
 
     ghost view = { λ note. recovery_note note.refusal note.losses note.kept };
-
-    ghost invariant = { λ note. IsOfTable note.refusal };
 }
 
 impl RecoveryNote {
@@ -58,7 +55,6 @@ impl RecoveryNote {
 
 /// What is noted of a recovery: nothing where the input spells a drawing.
 fn noting_of(refusal: Option<Refusal>, losses: Items<Loss>, kept: Items<Kept>) -> Noting
-    requires { IfSome refusal IsOfTable }
     ensures note { note_of result ≡ recovery_notes refusal losses kept }
     ensures status { ends_by result ≡ recovery_status refusal }
 {
@@ -73,9 +69,8 @@ fn noting_of(refusal: Option<Refusal>, losses: Items<Loss>, kept: Items<Kept>) -
 }
 
 /// What is answered of what was recovered.
-#[tactic(auto, unfolding(crate::specs::Outcome::recovered_outcome))]
+#[tactic(auto, unfolding(crate::specs::Answered::recovered_outcome))]
 fn recovered_pending<'a>(recovered: Recovered<'a>) -> Pending<'a>
-    requires { IfSome recovered.refusal IsOfTable }
     ensures { comes_to result ≡ recovered_outcome (recovered_value recovered.entry) }
 {
     Pending::File {
@@ -86,10 +81,10 @@ fn recovered_pending<'a>(recovered: Recovered<'a>) -> Pending<'a>
 }
 
 /// What `recover` answers.
-#[tactic(auto, unfolding(crate::specs::Outcome::outcome_within, crate::specs::Outcome::outcome_passing))]
+#[tactic(auto, unfolding(crate::specs::Outcome::outcome_within, crate::specs::Commands::row_of))]
 pub(crate) fn recover_pending<'a>(alloc: Global, bytes: &'a [u8]) -> Result<Pending<'a>, NoMemory>
     requires { length bytes.now ≤ MOST_BYTES }
-    ensures { IfOk result (λ pending. comes_to pending ≡ outcome_within Reading.Recover bytes.now) }
+    ensures { IfOk result (λ pending. comes_to pending ≡ outcome_within Command.Recover bytes.now) }
 {
     let recovered = recover_input(alloc, bytes)?;
     Ok(recovered_pending(recovered))

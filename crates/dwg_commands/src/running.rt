@@ -1,9 +1,13 @@
 //! Running a job: what it comes to is made, and then sent.
 
-ghost use Rattle.std.specs.Prelude.{◌≡◌, ◌≤◌, IfErr, IfOk, length};
+ghost use Rattle.std.specs.Prelude.{◌≡◌, ◌≤◌, Option, IfErr, IfOk, length};
+ghost use Rattle.dwg_base.specs.Refusal.{Refusal};
+ghost use Rattle.dwg_base.specs.Refusals.{Reports};
 ghost use Rattle.dwg_base.specs.Devices.{MOST_BYTES};
 ghost use Rattle.dwg_commands.specs.Jobs.{asked, IsWithin};
-ghost use Rattle.dwg_commands.specs.Outcome.{noted, outcome_within};
+ghost use Rattle.dwg_commands.specs.Answered.{noted};
+ghost use Rattle.dwg_commands.specs.Outcome.{outcome_within, refused_or};
+ghost use Rattle.dwg_commands.specs.declared.outcome.Outcome.{Outcome};
 ghost use Rattle.dwg_commands.specs.Pendings.{comes_to, IsRefused};
 ghost use Rattle.dwg_commands.specs.Run.{Sent, sinks};
 
@@ -20,52 +24,61 @@ use crate::recover::recover_pending;
 use crate::sections::{classes_pending, sections_pending};
 use crate::sending::send_pending;
 use crate::status::Status;
-use crate::words::Reading;
+use crate::words::Command;
 use dwg_base::{Fault, NoMemory, Sink};
 use dwg_text::{too_long_note, usage_note};
 use std::alloc::Global;
 
-/// What a command that reads answers to an input within the limit, or the first of its lines that fails.
+/// What a command answers to an input within the limit, or the first of its lines that fails.
+#[tactic(auto, using(crate::proofs::Unread::made_within, crate::proofs::Unread::drilled_within))]
 fn pending_or_fault<'a>(
     alloc: Global,
-    reading: Reading,
+    command: Command,
     bytes: &'a [u8],
 ) -> Result<Pending<'a>, Fault>
     requires { length bytes.now ≤ MOST_BYTES }
-    ensures reported { IfOk result (λ pending. comes_to pending ≡ outcome_within reading bytes.now) }
-    ensures refused { IfErr result (λ fault. IsRefused reading bytes.now fault) }
+    ensures reported { IfOk result (λ pending. comes_to pending ≡ outcome_within command bytes.now) }
+    ensures refused { IfErr result (λ fault. IsRefused command bytes.now fault) }
 {
-    match reading {
-        Reading::Sections => sections_pending(alloc, bytes),
-        Reading::Classes => classes_pending(alloc, bytes),
-        Reading::Show => show_pending(alloc, bytes),
-        Reading::Rewrite => rewrite_pending(alloc, bytes),
-        Reading::Audit => audit_pending(alloc, bytes),
-        Reading::Recover => match recover_pending(alloc, bytes) {
-            Ok(pending) => Ok(pending),
-            Err(NoMemory) => Err(Fault::NoMemory),
-        },
-        Reading::Appdata => appdata_pending(alloc, bytes),
-        Reading::Certify => certify_pending(alloc, bytes),
-        Reading::Accept => accept_pending(alloc, bytes),
-        Reading::Carry => carry_pending(alloc, bytes),
+    match command {
+        Command::Sections => sections_pending(alloc, bytes),
+        Command::Classes => classes_pending(alloc, bytes),
+        Command::Show => show_pending(alloc, bytes),
+        Command::Rewrite => rewrite_pending(alloc, bytes),
+        Command::Audit => audit_pending(alloc, bytes),
+        Command::Recover => Ok(recover_pending(alloc, bytes)?),
+        Command::Appdata => appdata_pending(alloc, bytes),
+        Command::Certify => certify_pending(alloc, bytes),
+        Command::Accept => accept_pending(alloc, bytes),
+        Command::Carry => carry_pending(alloc, bytes),
+        Command::Make { n, seed } => Ok(make_pending(alloc, n, seed)?),
+        Command::Drill { n } => Ok(drill_pending(alloc, n)?),
     }
 }
 
-/// What a command that reads answers to an input within the limit: where one of its lines fails, the refusal. Err: out of memory.
+/// What is answered of a fault: its refusal. Err: out of memory.
+fn refused_pending<'a>(alloc: Global, fault: Fault) -> Result<Pending<'a>, NoMemory>
+    ensures { (first : Option Refusal) (answer : Outcome) → Reports fault first → IfOk result (λ pending. comes_to pending ≡ refused_or first answer) }
+{
+    match fault {
+        Fault::Refused(refusal) => Ok(Pending::Whole(refused_outcome(alloc, refusal)?)),
+        Fault::NoMemory => Err(NoMemory),
+    }
+}
+
+/// What a command answers to an input within the limit: where one of its lines fails, the refusal. Err: out of memory.
 #[tactic(auto, unfolding(crate::specs::Outcome::outcome_within))]
-fn pending_read<'a>(
+fn pending_within<'a>(
     alloc: Global,
-    reading: Reading,
+    command: Command,
     bytes: &'a [u8],
 ) -> Result<Pending<'a>, NoMemory>
     requires { length bytes.now ≤ MOST_BYTES }
-    ensures { IfOk result (λ pending. comes_to pending ≡ outcome_within reading bytes.now) }
+    ensures { IfOk result (λ pending. comes_to pending ≡ outcome_within command bytes.now) }
 {
-    match pending_or_fault(alloc, reading, bytes) {
+    match pending_or_fault(alloc, command, bytes) {
         Ok(pending) => Ok(pending),
-        Err(Fault::Refused(refusal)) => Ok(Pending::Whole(refused_outcome(alloc, refusal)?)),
-        Err(Fault::NoMemory) => Err(NoMemory),
+        Err(fault) => refused_pending(alloc, fault),
     }
 }
 
@@ -88,9 +101,7 @@ fn pending_of<'a>(alloc: Global, job: &'a Job) -> Result<Pending<'a>, NoMemory>
     match job {
         Job::Usage => Ok(noted(usage_note(), Status::Usage)),
         Job::TooLong => Ok(noted(too_long_note(), Status::TooLong)),
-        Job::Make { n, seed } => make_pending(alloc, *n, *seed),
-        Job::Drill { n } => drill_pending(alloc, *n),
-        Job::Read { reading, bytes } => pending_read(alloc, *reading, bytes.as_slice()),
+        Job::Run { command, bytes } => pending_within(alloc, *command, bytes.as_slice()),
     }
 }
 

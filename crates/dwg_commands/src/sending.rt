@@ -5,7 +5,7 @@ ghost use Rattle.std.specs.Io.KnownBytes.{Appends};
 ghost use Rattle.dwg_base.specs.Devices.{AppendsPrefix, Rose};
 ghost use Rattle.dwg_file.specs.Contents.{contents_of};
 ghost use Rattle.dwg_file.specs.Canonical.{canonical_with};
-ghost use Rattle.dwg_commands.specs.Outcome.{filed_with, noted};
+ghost use Rattle.dwg_commands.specs.Answered.{filed_with, noted};
 ghost use Rattle.dwg_text.specs.Notes as texts;
 ghost use Rattle.dwg_commands.specs.Pendings.{comes_to, ends_by, note_of};
 ghost use Rattle.dwg_commands.specs.Run.{IsStopped, Sent, sinks};

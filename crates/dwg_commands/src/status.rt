@@ -1,7 +1,7 @@
 //! How a run of the program ends.
 
 ghost use Rattle.std.specs.Prelude.{◌≡◌};
-ghost use Rattle.dwg_commands.specs.Outcome.{verdict_status};
+ghost use Rattle.dwg_commands.specs.Answered.{verdict_status};
 
 use dwg_base::Refusal;
 

@@ -4,32 +4,8 @@ ghost use Rattle.std.specs.Prelude.{◌≡◌, ℕ, ◌<◌, ◌^◌, [], ◌∷
 ghost use Rattle.std.specs.Fmt.{decimal};
 ghost use Rattle.std.specs.List.{list_all};
 ghost use Rattle.std.specs.Char.{is_ascii_digit};
-ghost use Rattle.dwg_commands.specs.Words.{texts, is_numeral, number_of, make_of, drill_of, reading_of, reading_in, reads, command_of};
-
-/// How a command reads the input: what it says of that is reported at the `Command` of the same name.
-#[derive(Clone, Copy, Debug, PartialEq, Eq)]
-pub enum Reading {
-    /// The file header is read.
-    Sections,
-    /// The file header and the classes are read.
-    Classes,
-    /// The drawing is read, to be shown.
-    Show,
-    /// The drawing is read, to be written again.
-    Rewrite,
-    /// The drawing is read, to be audited.
-    Audit,
-    /// All that is left of a drawing is read.
-    Recover,
-    /// The drawing is read, for the items of its extended data.
-    Appdata,
-    /// The drawing is read, to be certified.
-    Certify,
-    /// A certificate is read, and the drawing after it.
-    Accept,
-    /// The drawing is read, to be written again with its preview.
-    Carry,
-}
+ghost use Rattle.dwg_commands.specs.Commands.{reads};
+ghost use Rattle.dwg_commands.specs.Words.{texts, is_numeral, number_of, make_of, drill_of, reading_of, command_of};
 
 /// What the program is asked for.
 #[derive(Clone, Copy, Debug, PartialEq, Eq)]
@@ -124,73 +100,44 @@ fn read_drill(n: &str) -> Option<Command>
 }
 
 /// The command that reads of this word.
-#[tactic(auto, unfolding(crate::specs::Words::reading_of))]
-fn reading_named(word: &str) -> Option<Reading>
+#[tactic(auto, unfolding(crate::specs::Words::reading_of, crate::specs::Commands::READERS, crate::specs::Commands::row_of))]
+fn reading_named(word: &str) -> Option<Command>
     ensures { result ≡ reading_of word.now }
 {
     match word {
-        "sections" => Some(Reading::Sections),
-        "classes" => Some(Reading::Classes),
-        "show" => Some(Reading::Show),
-        "rewrite" => Some(Reading::Rewrite),
-        "audit" => Some(Reading::Audit),
-        "recover" => Some(Reading::Recover),
-        "appdata" => Some(Reading::Appdata),
-        "certify" => Some(Reading::Certify),
-        "accept" => Some(Reading::Accept),
-        "carry" => Some(Reading::Carry),
+        "sections" => Some(Command::Sections),
+        "classes" => Some(Command::Classes),
+        "show" => Some(Command::Show),
+        "rewrite" => Some(Command::Rewrite),
+        "audit" => Some(Command::Audit),
+        "recover" => Some(Command::Recover),
+        "appdata" => Some(Command::Appdata),
+        "certify" => Some(Command::Certify),
+        "accept" => Some(Command::Accept),
+        "carry" => Some(Command::Carry),
         _ => None,
     }
 }
 
-/// The command that reads so.
-fn command_by(reading: Reading) -> Command
-    ensures { result ≡ reads reading }
-{
-    match reading {
-        Reading::Sections => Command::Sections,
-        Reading::Classes => Command::Classes,
-        Reading::Show => Command::Show,
-        Reading::Rewrite => Command::Rewrite,
-        Reading::Audit => Command::Audit,
-        Reading::Recover => Command::Recover,
-        Reading::Appdata => Command::Appdata,
-        Reading::Certify => Command::Certify,
-        Reading::Accept => Command::Accept,
-        Reading::Carry => Command::Carry,
-    }
-}
-
-/// How a command reads. None exactly where it makes a drawing.
-pub(crate) fn reading_in(command: Command) -> Option<Reading>
-    ensures { result ≡ reading_in command }
+/// Whether a command reads the input.
+#[tactic(auto, unfolding(crate::specs::Commands::row_of))]
+pub(crate) fn reads(command: Command) -> bool
+    ensures { result ≡ reads command }
 {
     match command {
-        Command::Sections => Some(Reading::Sections),
-        Command::Classes => Some(Reading::Classes),
-        Command::Show => Some(Reading::Show),
-        Command::Rewrite => Some(Reading::Rewrite),
-        Command::Audit => Some(Reading::Audit),
-        Command::Recover => Some(Reading::Recover),
-        Command::Appdata => Some(Reading::Appdata),
-        Command::Certify => Some(Reading::Certify),
-        Command::Accept => Some(Reading::Accept),
-        Command::Carry => Some(Reading::Carry),
-        Command::Make { .. } => None,
-        Command::Drill { .. } => None,
+        Command::Make { .. } => false,
+        Command::Drill { .. } => false,
+        _ => true,
     }
 }
 
 /// The command that the words name, by the table of commands.
-#[tactic(auto, unfolding(crate::specs::Words::command_of))]
+#[tactic(auto, unfolding(crate::specs::Words::command_of, crate::specs::Commands::row_of))]
 fn command_named(words: &[String]) -> Option<Command>
     ensures { result ≡ command_of (texts words.now) }
 {
     match words {
-        [word] => match reading_named(word.as_str()) {
-            Some(reading) => Some(command_by(reading)),
-            None => None,
-        },
+        [word] => reading_named(word.as_str()),
         [word, n] => {
             if word.as_str() == "drill" {
                 read_drill(n.as_str())

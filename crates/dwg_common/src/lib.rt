@@ -9,7 +9,7 @@ mod bit_size;
 mod body;
 mod counts;
 mod entity;
-mod given;
+mod entity_start;
 mod graphic;
 mod laws;
 mod links;
@@ -21,19 +21,15 @@ mod points;
 mod rows;
 mod sized;
 mod skip;
-mod start;
 mod tv;
 mod two_refs;
+mod version_only;
 
 pub use app_data::AppData;
 pub use bit_layout::Layout;
 pub use body::{BodyCode, BodyCode14, Lengths, body_laws, older_laws};
 pub use counts::{TOO_MANY, count_bits, count_fits, write_count};
 pub use entity::{EntityCommon, Links};
-pub use given::{
-    length_given, parse_given, parse_ref_since, ref_since_bits, ref_since_fits, write_given,
-    write_ref_since,
-};
 pub use laws::common_laws;
 pub use object::ObjectCommon;
 pub use part_reading::{parse_bytes, parse_code, parse_ref, parse_refs, parse_when};
@@ -44,3 +40,7 @@ pub use sized::{parse_sized, sized_bits, sized_fits, write_sized};
 pub use skip::read_size;
 pub use tv::{parse_tv, tv_bits, tv_fits, write_tv};
 pub use two_refs::{CodeTwoRefs, two_refs_fit};
+pub use version_only::{
+    length_given, parse_given, parse_ref_since, ref_since_bits, ref_since_fits, write_given,
+    write_ref_since,
+};

@@ -9,9 +9,9 @@ ghost use Rattle.dwg_common.specs.Entities.{bylayer_of, entity_look, look_of};
 ghost use Rattle.dwg_common.specs.EntityReading.{look_read};
 
 use crate::entity::{EntityCommon, Look};
-use crate::given::{length_given, parse_given, write_given};
+use crate::entity_start::is_by_layer;
 use crate::part_reading::parse_code;
-use crate::start::is_by_layer;
+use crate::version_only::{length_given, parse_given, write_given};
 use dwg_base::Version;
 use dwg_bits::{BitCursor, BitSink};
 use dwg_codes::{BitCode, CodeBB, CodeBD, CodeBS, CodeRC};

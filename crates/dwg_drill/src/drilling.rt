@@ -1,9 +1,10 @@
 //! The drill: a made drawing written, read again and audited, and read with a changed byte.
 
-ghost use Rattle.std.specs.Prelude.{◌≡◌, ◌≤◌, ◌<◌, ◌⊎◌, ℕ, None, Err, length, IfOk, IfSome, OnOk, IsErrOf};
+ghost use Rattle.std.specs.Prelude.{◌≡◌, ◌≤◌, ◌<◌, ◌⊎◌, ℕ, Option, None, Err, length, IfOk, IfSome, OnOk, IsErrOf};
 ghost use Rattle.dwg_audit.specs.Findings.{findings};
 ghost use Rattle.dwg_base.specs.Devices.{MOST_BYTES};
-ghost use Rattle.dwg_base.specs.Refusals.{IsOfTable, first_fault};
+ghost use Rattle.dwg_base.specs.Refusals.{Reports, first_fault};
+ghost use Rattle.dwg_base.specs.Refusal.{Refusal};
 ghost use Rattle.dwg_check.specs.CheckWord.{check_word};
 ghost use Rattle.dwg_drill.specs.Drilled.{DRILL_SEED, WHOLE_FILE_START, changed, drilled, middle_of};
 ghost use Rattle.dwg_file.specs.Canonical.{size_of};
@@ -62,16 +63,24 @@ fn change(file: &mut Vec<u8>)
     file[middle] = 255 - file[middle];
 }
 
+/// The refusal of a fault. Err: out of memory.
+fn refusal_of(fault: Fault) -> Result<Option<Refusal>, NoMemory>
+    ensures { (first : Option Refusal) → Reports fault first → IfOk result (λ refusal. refusal ≡ first) }
+{
+    match fault {
+        Fault::Refused(refusal) => Ok(Some(refusal)),
+        Fault::NoMemory => Err(NoMemory),
+    }
+}
+
 /// The first fault of a file, if it has one. Err: out of memory.
 fn fault_of(alloc: Global, file: &[u8]) -> Result<Option<Refusal>, NoMemory>
     requires { length file.now ≤ MOST_BYTES }
     ensures fault { IfOk result (λ fault. fault ≡ first_fault ALL_LINES file.now) }
-    ensures of_table { IfOk result (λ fault. IfSome fault IsOfTable) }
 {
     match read_drawing(alloc, file) {
-        Ok(_) => Ok(None),
-        Err(Fault::Refused(refusal)) => Ok(Some(refusal)),
-        Err(Fault::NoMemory) => Err(NoMemory),
+        Ok(_drawing) => Ok(None),
+        Err(fault) => refusal_of(fault),
     }
 }
 
@@ -97,7 +106,6 @@ fn drill_file(alloc: Global, entities: u32, file: ByteRun) -> Result<DrillReport
       fault = first_fault ALL_LINES (changed file);
       findings = length (findings (drawing_at file).objects);
     }) }
-    ensures of_table { IfOk result (λ report. IfSome report.fault IsOfTable) }
 {
     let mut file = owned(alloc, file)?;
     let size = file.len() as u64;
@@ -122,7 +130,6 @@ fn drill_file(alloc: Global, entities: u32, file: ByteRun) -> Result<DrillReport
 /// of memory.
 pub fn drill(alloc: Global, n: u32) -> Result<DrillReport, DrillFault>
     ensures report { IfOk result (λ report. report ≡ drilled n) }
-    ensures of_table { IfOk result (λ report. IfSome report.fault IsOfTable) }
     ensures within { OnOk result ((0 < n) × (n ≤ MOST_ENTITIES) × (size_of (made n DRILL_SEED) ≤ MOST_BYTES)) }
     ensures size { IsErrOf result DrillFault.Size → (n ≡ 0) ⊎ (MOST_ENTITIES < n) }
     ensures size_reported { (n ≡ 0) ⊎ (MOST_ENTITIES < n) → IsErrOf result DrillFault.Size }

@@ -6,7 +6,7 @@ ghost use Rattle.dwg_grammar.specs.Flags.{has};
 ghost use Rattle.dwg_entities.specs.Flags.{unless, weight_unless};
 ghost use Rattle.dwg_entities.specs.TextBody.{aligned, word};
 
-use crate::words::{known_alignment, known_word};
+use crate::text_numbers::{known_alignment, known_word};
 use dwg_base::Version;
 use dwg_codes::Point2;
 

@@ -13,7 +13,7 @@ mod laws;
 mod minsert;
 mod scale;
 mod text;
-mod words;
+mod text_numbers;
 
 pub use attdef::Attdef;
 pub use attrib::Attrib;

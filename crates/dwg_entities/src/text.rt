@@ -12,7 +12,7 @@ ghost use Rattle.dwg_entities.specs.TextBody.{flags_of, lettering_of, placing_of
 ghost use Rattle.dwg_entities.specs.TextReading.{lettering_read, placing_read, wording_read};
 
 use crate::flags::{alignment_fits, has, number_fits, weight_unless, word_fits};
-use crate::words::{CodeAlignment, CodeWord, known_word};
+use crate::text_numbers::{CodeAlignment, CodeWord, known_word};
 use dwg_base::{ByteRun, Handle, NoMemory, Version};
 use dwg_bits::{BitCursor, BitSink};
 use dwg_codes::{

@@ -2,7 +2,7 @@
 use Rattle.std.proofs.Common.{◌≡◌, sym, ◌∙◌, ap, subst, ◌+◌}
 use Rattle.std.specs.Prelude.{◌↔◌, Some, Err}
 use Rattle.dwg_base.specs.Refusals.{Tried, fault_of}
-use Rattle.dwg_base.specs.declared.refusal.Refusal.{Refusal}
+use Rattle.dwg_base.specs.Refusal.{Refusal}
 use Rattle.dwg_classes.specs.ClassLines.{RefusesClass, tried_classes}
 use Rattle.dwg_classes.proofs.ClassLineLemmas.{tried_err}
 use Rattle.dwg_objmap.specs.MapLines.{RefusesMap, tried_map}

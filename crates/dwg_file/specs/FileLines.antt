@@ -4,7 +4,7 @@ use Rattle.dwg_base.specs.Versions.{version_at}
 use Rattle.std.specs.List.{list_any}
 use Rattle.std.specs.Result.{result_unwrap_or}
 use Rattle.dwg_base.specs.Refusals.{RefusalRow, Tried, first_fault, fault_of}
-use Rattle.dwg_base.specs.declared.refusal.Refusal.{Refusal}
+use Rattle.dwg_base.specs.Refusal.{Refusal}
 use Rattle.dwg_classes.specs.declared.class.Class.{Class}
 use Rattle.dwg_classes.specs.ClassLines.{tried_classes}
 use Rattle.dwg_object.specs.declared.span.Span.{Span}

@@ -1,7 +1,7 @@
 -- How the header variables, the classes and the map of an input with a header are refused, each by the first thing in it that fails. A rule of this project.
 use Rattle.std.specs.Prelude.{◌≡◌, ◌+◌, ◌↔◌, ℕ, List, Some}
 use Rattle.dwg_base.specs.Bytes.{AreBytes}
-use Rattle.dwg_base.specs.declared.refusal.Refusal.{Refusal}
+use Rattle.dwg_base.specs.Refusal.{Refusal}
 use Rattle.dwg_classes.specs.ClassLines.{RefusesClass}
 use Rattle.dwg_objmap.specs.MapLines.{RefusesMap}
 use Rattle.dwg_sections.specs.declared.framed.Framed.TheVariants.{Variables, Classes}

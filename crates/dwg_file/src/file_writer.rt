@@ -85,14 +85,8 @@ fn send_sections<W: Sink>(
     ensures counts { Counts (W.faults sink.old) (W.faults sink.new) result }
     ensures room { part.old.spare + length part.old.written ≤ part.new.spare + length part.new.written }
 {
-    match send_framed(Framed::Variables, parts.variables.as_slice(), buffer, sink) {
-        Ok(()) => {}
-        Err(WriteFault) => return Err(WriteFault),
-    }
-    match send_classes(parts.classes.as_slice(), part, buffer, sink) {
-        Ok(()) => {}
-        Err(WriteFault) => return Err(WriteFault),
-    }
+    send_framed(Framed::Variables, parts.variables.as_slice(), buffer, sink)?;
+    send_classes(parts.classes.as_slice(), part, buffer, sink)?;
     send_preview(carried, place, part, buffer, sink)
 }
 
@@ -112,18 +106,9 @@ fn send_prefix<W: Sink>(
     ensures room { part.old.spare + length part.old.written ≤ part.new.spare + length part.new.written }
     ensures none { OnOk result (buffer.new ≡ []) }
 {
-    match send_header(header, part, buffer, sink) {
-        Ok(()) => {}
-        Err(WriteFault) => return Err(WriteFault),
-    }
-    match send_sections(parts, carried, header.preview, part, buffer, sink) {
-        Ok(()) => {}
-        Err(WriteFault) => return Err(WriteFault),
-    }
-    match send_frames(parts.version, parts.objects.as_slice(), part, buffer, sink) {
-        Ok(()) => {}
-        Err(WriteFault) => return Err(WriteFault),
-    }
+    send_header(header, part, buffer, sink)?;
+    send_sections(parts, carried, header.preview, part, buffer, sink)?;
+    send_frames(parts.version, parts.objects.as_slice(), part, buffer, sink)?;
     buffer.flush(sink)
 }
 
@@ -137,10 +122,7 @@ fn send_back<W: Sink>(
     ensures bytes { Sends (W.taken sink.old) (W.taken sink.new) (others_bytes (contents_of parts.now).others) result }
     ensures counts { Counts (W.faults sink.old) (W.faults sink.new) result }
 {
-    match send_others(parts.others.as_slice(), buffer, sink) {
-        Ok(()) => {}
-        Err(WriteFault) => return Err(WriteFault),
-    }
+    send_others(parts.others.as_slice(), buffer, sink)?;
     buffer.flush(sink)
 }
 
@@ -271,21 +253,15 @@ impl<'d, 'a> Plan<'d, 'a> {
     {
         let parts = self.drawing.parts();
         self.buffer.clear();
-        match send_prefix(
+        send_prefix(
             parts,
             &self.carried,
             &self.header,
             &mut self.part,
             &mut self.buffer,
             sink,
-        ) {
-            Ok(()) => {}
-            Err(WriteFault) => return Err(WriteFault),
-        }
-        match send_map(self.pairs.as_slice(), &mut self.pages, sink) {
-            Ok(()) => {}
-            Err(WriteFault) => return Err(WriteFault),
-        }
+        )?;
+        send_map(self.pairs.as_slice(), &mut self.pages, sink)?;
         send_back(parts, &mut self.buffer, sink)
     }
 }

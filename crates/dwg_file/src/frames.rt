@@ -1,7 +1,6 @@
 //! Reading frames, pair by pair in map order.
 
-ghost use Rattle.std.specs.Prelude.{◌≡◌, ℕ, ◌-◌, ◌<◌, ◌||◌, List, [], ◌∷◌, ◌++◌, map, false, ◌↔◌, IsTrue, IfOk, IfErr};
-ghost use Rattle.dwg_base.specs.Refusals.{IsFaultOfTable};
+ghost use Rattle.std.specs.Prelude.{◌≡◌, ℕ, ◌-◌, ◌<◌, ◌≤◌, ◌||◌, List, [], ◌∷◌, ◌++◌, map, false, ◌↔◌, IsTrue, IfOk, IfErr};
 ghost use Rattle.dwg_object.specs.FrameLines.{frame_refusal};
 ghost use Rattle.std.specs.List.{All};
 ghost use Rattle.dwg_object.specs.Objects.{IsBorrowedObject, handle_of, value_of};
@@ -11,22 +10,20 @@ ghost use Rattle.dwg_file.specs.FrameReading.{AreRanges, AnswersPair, HasRead, G
 ghost use Rattle.dwg_file.specs.ByteRanges.{meets, shares};
 
 use crate::byte_ranges::ByteRanges;
+use dwg_base::refusal_lines::{FRAME_HANDLE, FRAME_OVERLAP};
 use dwg_base::{Fault, Handle, Items, NoMemory, Refusal, Version, vec_with_capacity};
 use dwg_classes::Hints;
 use dwg_object::{Found, Object, read_span, span_at};
 use dwg_objmap::Pair;
 use std::alloc::Global;
 
-// The lines of the table on a frame that shares bytes with an earlier one, and on one whose own handle isn't the pair's.
-const OVERLAP_LINE: u8 = 29;
-
-const HANDLE_LINE: u8 = 32;
-
 /// The refusal of a pair's frame by a line, at the pair's place.
 fn refused(line: u8, index: u64, place: u64) -> Fault
+    requires least { 1 ≤ line }
+    requires most { line ≤ 37 }
     ensures { result ≡ Fault.Refused (frame_refusal line index place) }
 {
-    Fault::Refused(Refusal { line, index, place })
+    Fault::Refused(Refusal::new(line, index, place))
 }
 
 /// Whether the own handle of a frame's object is this one.
@@ -50,7 +47,6 @@ fn frame_of_pair<'a>(
     ensures lent { IfOk result (λ found. IsBorrowedObject found.object) }
     ensures some { IfOk result (λ found. pair.now.place < found.end) }
     ensures apart { IfOk result (λ found. shares taken.now pair.now.place found.end ≡ false) }
-    ensures of_table { IfErr result IsFaultOfTable }
 {
     let place = pair.place;
     let span = match span_at(bytes, place, index) {
@@ -58,14 +54,14 @@ fn frame_of_pair<'a>(
         Err(refusal) => return Err(Fault::Refused(refusal)),
     };
     if taken.shares(span.from, span.end) {
-        return Err(refused(OVERLAP_LINE, index, place));
+        return Err(refused(FRAME_OVERLAP, index, place));
     }
     let found = match read_span(alloc, bytes, &span, index, hints, Version::of_input(bytes)) {
         Ok(found) => found,
         Err(fault) => return Err(fault),
     };
     if !has_handle(&found, pair.handle) {
-        return Err(refused(HANDLE_LINE, index, place));
+        return Err(refused(FRAME_HANDLE, index, place));
     }
     Ok(found)
 }
@@ -146,7 +142,6 @@ fn next_frame<'a>(
 ) -> Result<Frames<'a>, Fault>
     ensures lent { All IsBorrowedObject read.entry.objects.items → IfOk result (λ more. All IsBorrowedObject more.objects.items) }
     ensures goes_on { (earlier : List FoundFrame) (handles : List ℕ) → HasRead hints.now bytes.now earlier handles read.entry → GoesOn hints.now bytes.now earlier handles pair.now (tried_pair bytes.now earlier index pair.now) result }
-    ensures of_table { IfErr result IsFaultOfTable }
 {
     let found = frame_of_pair(alloc, &read.taken, bytes, pair, index, hints)?;
     let more = with_frame(read, pair, found)?;
@@ -164,7 +159,6 @@ pub(crate) fn read_frames<'a>(
     ensures tried { AnswersFrames hints.now bytes.now (frames_after bytes.now 0 [] pairs.now) result }
     ensures own { IfOk result (λ read. map handle_of (values_of read.objects.items) ≡ handles_of pairs.now) }
     ensures lent { IfOk result (λ read. All IsBorrowedObject read.objects.items) }
-    ensures of_table { IfErr result IsFaultOfTable }
 {
     let objects = room_for_objects(alloc, pairs.len(), bytes.len())?;
     let mut read = Frames {

@@ -2,7 +2,6 @@
 
 ghost use Rattle.std.specs.Prelude.{◌≡◌, [], map, IfOk, IfErr, IsTrue, ◌↔◌};
 ghost use Rattle.std.specs.List.Sorted.{IsPermutation, IsNonDecreasingBy};
-ghost use Rattle.dwg_base.specs.Refusals.{IsFaultOfTable};
 ghost use Rattle.std.specs.List.{All};
 ghost use Rattle.dwg_object.specs.Objects.{IsBorrowedObject, handle_of, value_of};
 ghost use Rattle.dwg_objmap.specs.Pages.{AreHandles, handles_of};
@@ -101,7 +100,6 @@ pub(crate) fn read_objects<'a>(
     requires { AreHandles (handles_of pairs.now) }
     ensures tried { AnswersObjects classes.now bytes.now (frames_after bytes.now 0 [] pairs.now) result }
     ensures lent { IfOk result (λ read. All IsBorrowedObject read.objects) }
-    ensures of_table { IfErr result IsFaultOfTable }
 {
     let hints = Hints::build(alloc, classes)?;
     let read = read_frames(alloc, bytes, pairs, &hints)?;

@@ -48,10 +48,7 @@ fn send_all<W: Sink>(
     ensures counts { Counts (W.faults sink.old) (W.faults sink.new) result }
 {
     'pieces: for index in 0..pieces.len() {
-        match buffer.write(pieces[index], sink) {
-            Ok(()) => {}
-            Err(WriteFault) => return Err(WriteFault),
-        }
+        buffer.write(pieces[index], sink)?;
     }
     Ok(())
 }
@@ -193,10 +190,7 @@ pub(crate) fn send_frames<W: Sink>(
     ensures room { part.old.spare + length part.old.written ≤ part.new.spare + length part.new.written }
 {
     'objects: for object in objects {
-        match send_frame(object, version, part, buffer, sink) {
-            Ok(()) => {}
-            Err(WriteFault) => return Err(WriteFault),
-        }
+        send_frame(object, version, part, buffer, sink)?;
     }
     Ok(())
 }
@@ -211,10 +205,7 @@ pub(crate) fn send_others<W: Sink>(
     ensures counts { Counts (W.faults sink.old) (W.faults sink.new) result }
 {
     'others: for other in others {
-        match buffer.write(other.bytes.as_slice(), sink) {
-            Ok(()) => {}
-            Err(WriteFault) => return Err(WriteFault),
-        }
+        buffer.write(other.bytes.as_slice(), sink)?;
     }
     Ok(())
 }
@@ -233,10 +224,7 @@ fn put_pairs<W: Sink>(
     ensures still_open { OnOk result (writer.new.ended ≡ false) }
 {
     'pairs: for pair in pairs {
-        match writer.put(*pair, sink) {
-            Ok(()) => {}
-            Err(WriteFault) => return Err(WriteFault),
-        }
+        writer.put(*pair, sink)?;
     }
     Ok(())
 }
@@ -252,9 +240,6 @@ pub(crate) fn send_map<W: Sink>(
     ensures counts { Counts (W.faults sink.old) (W.faults sink.new) result }
 {
     writer.restart();
-    match put_pairs(pairs, writer, sink) {
-        Ok(()) => {}
-        Err(WriteFault) => return Err(WriteFault),
-    }
+    put_pairs(pairs, writer, sink)?;
     writer.end(sink)
 }

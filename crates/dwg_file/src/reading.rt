@@ -3,7 +3,7 @@
 ghost use Rattle.std.specs.Prelude.{◌≡◌, ◌≤◌, [], ◌∷◌, length, map, IfOk, IfErr, OnOk, None};
 ghost use Rattle.std.specs.Result.{result_unwrap_or};
 ghost use Rattle.dwg_base.specs.Devices.{MOST_BYTES};
-ghost use Rattle.dwg_base.specs.Refusals.{first_fault, Reports, IsFaultOfTable};
+ghost use Rattle.dwg_base.specs.Refusals.{first_fault, Reports};
 ghost use Rattle.dwg_sections.specs.HeaderLines.{HEADER_LINES, header_at};
 ghost use Rattle.std.specs.List.{All};
 ghost use Rattle.dwg_object.specs.Objects.{IsBorrowedObject};
@@ -41,7 +41,6 @@ fn objects_of_file<'a>(
     ensures frames { IfOk result (λ read. read.frames ≡ map frame_of (result_unwrap_or (frames_tried bytes.now) [])) }
     ensures holds { OnOk result (first_fault (map_row ∷ frames_row ∷ []) bytes.now ≡ None) }
     ensures refused { IfErr result (λ fault. Reports fault (first_fault (map_row ∷ frames_row ∷ []) bytes.now)) }
-    ensures of_table { IfErr result IsFaultOfTable }
 {
     let pairs = pairs_of_file(alloc, bytes, header)?;
     let read = read_objects(alloc, bytes, pairs.as_slice(), classes)?;
@@ -68,7 +67,6 @@ fn parts_after<'a>(
     ensures lent { IfOk result (λ read. IsBorrowed read.parts) }
     ensures frames { IfOk result (λ read. read.frames ≡ map frame_of (result_unwrap_or (frames_tried bytes.now) [])) }
     ensures refused { IfErr result (λ fault. Reports fault (first_fault ALL_LINES bytes.now)) }
-    ensures of_table { IfErr result IsFaultOfTable }
 {
     let content = variables_of_file(bytes, header)?;
     let classes = classes_of_file(alloc, bytes, header)?;
@@ -113,7 +111,6 @@ pub fn read_with_frames<'a>(alloc: Global, bytes: &'a [u8]) -> Result<FramedDraw
 
     // The first line that fails, or out of memory.
     ensures refused { IfErr result (λ fault. Reports fault (first_fault ALL_LINES bytes.now)) }
-    ensures of_table { IfErr result IsFaultOfTable }
 {
     drawing_laws();
     let header = read_file_header(alloc, bytes)?;
@@ -141,7 +138,6 @@ pub fn read_drawing<'a>(alloc: Global, bytes: &'a [u8]) -> Result<Drawing<'a>, F
 
     // The first line that fails, or out of memory.
     ensures refused { IfErr result (λ fault. Reports fault (first_fault ALL_LINES bytes.now)) }
-    ensures of_table { IfErr result IsFaultOfTable }
 {
     let read = read_with_frames(alloc, bytes)?;
     Ok(read.drawing)

@@ -2,7 +2,7 @@
 
 ghost use Rattle.std.specs.Prelude.{◌≡◌, ◌≤◌, [], ◌∷◌, length, map, IfOk, IfErr, OnOk, Ok, None, Some};
 ghost use Rattle.dwg_base.specs.Devices.{MOST_BYTES};
-ghost use Rattle.dwg_base.specs.Refusals.{first_fault, Answers, Reports, IsOfTable, IsFaultOfTable};
+ghost use Rattle.dwg_base.specs.Refusals.{first_fault, Answers, Reports};
 ghost use Rattle.dwg_objmap.specs.Pages.{AreHandles, handles_of};
 ghost use Rattle.dwg_sections.specs.FramedLines.{content_at};
 ghost use Rattle.dwg_sections.specs.HeaderLines.{header_at};
@@ -33,7 +33,6 @@ pub(crate) fn variables_of_file<'a>(
     ensures value { IfOk result (λ content. content.now ≡ content_at bytes.now (section_place 0 bytes.now)) }
     ensures holds { OnOk result (variables_row bytes.now ≡ None) }
     ensures refused { IfErr result (λ refusal. variables_row bytes.now ≡ Some refusal) }
-    ensures of_table { IfErr result IsOfTable }
 {
     let place = header.place_of(VARIABLES_NUMBER).unwrap_or(0);
     read_framed(bytes, place, Framed::Variables)
@@ -52,7 +51,6 @@ pub fn classes_of_file(
     ensures classes { IfOk result (λ classes. classes_tried bytes.now ≡ Ok classes) }
     ensures holds { OnOk result (first_fault (classes_section_row ∷ classes_row ∷ []) bytes.now ≡ None) }
     ensures refused { IfErr result (λ fault. Reports fault (first_fault (classes_section_row ∷ classes_row ∷ []) bytes.now)) }
-    ensures of_table { IfErr result IsFaultOfTable }
 {
     let place = header.place_of(CLASSES_NUMBER).unwrap_or(0);
     let content = read_framed(bytes, place, Framed::Classes)?;
@@ -69,7 +67,6 @@ pub(crate) fn pairs_of_file(
     requires { header.now ≡ header_at bytes.now }
     ensures tried { Answers result (map_tried bytes.now) }
     ensures handles { IfOk result (λ pairs. AreHandles (handles_of pairs)) }
-    ensures of_table { IfErr result IsFaultOfTable }
 {
     let place = header.place_of(OBJECT_MAP_NUMBER).unwrap_or(0);
     read_map(alloc, bytes, u64::from(place))
@@ -87,7 +84,6 @@ pub(crate) fn others_of_file<'a>(
     ensures lent { IfOk result (All IsBorrowedSection) }
     ensures holds { OnOk result (sections_row bytes.now ≡ None) }
     ensures refused { IfErr result (λ fault. Reports fault (sections_row bytes.now)) }
-    ensures of_table { IfErr result IsFaultOfTable }
 {
     let locators = header.locators.as_slice();
     if let Some(refusal) = refusal_of_others(bytes, locators) {

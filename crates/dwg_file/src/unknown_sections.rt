@@ -1,7 +1,6 @@
 //! Unknown sections: those whose number is none of a section that is known.
 
 ghost use Rattle.std.specs.Prelude.{◌≡◌, ◌≤◌, [], ◌∷◌, ◌++◌, take, drop, map, IfOk, IfSome, None, false};
-ghost use Rattle.dwg_base.specs.Refusals.{IsOfTable};
 ghost use Rattle.std.specs.List.{All};
 ghost use Rattle.dwg_file.specs.Borrowed.{IsBorrowedSection};
 ghost use Rattle.dwg_file.specs.Contents.{other_value};
@@ -9,6 +8,7 @@ ghost use Rattle.dwg_file.specs.FileLines.{is_cut, first_cut};
 ghost use Rattle.dwg_file.specs.ReadAs.{sections_at, whole_locators};
 
 use crate::drawing_parts::Other;
+use dwg_base::refusal_lines::SECTION_SHORT;
 use dwg_base::{Items, NoMemory, Refusal};
 use dwg_codes::BytePart;
 use dwg_sections::Locator;
@@ -16,9 +16,6 @@ use std::alloc::Global;
 
 /// The least number of an unknown section.
 const LEAST_NUMBER: u8 = 3;
-
-/// The line of the table on an unknown section that passes the end of the input.
-const SHORT_LINE: u8 = 33;
 
 /// Whether the bytes of a locator's unknown section pass the end of the input. A section without bytes passes none.
 pub fn is_cut(bytes: &[u8], locator: &Locator) -> bool
@@ -37,16 +34,11 @@ pub fn is_cut(bytes: &[u8], locator: &Locator) -> bool
 /// Why the unknown sections are refused: the first, locator by locator, that passes the end of the input.
 pub(crate) fn refusal_of_others(bytes: &[u8], locators: &[Locator]) -> Option<Refusal>
     ensures first { result ≡ first_cut bytes.now 0 locators.now }
-    ensures of_table { IfSome result IsOfTable }
 {
     'locators: for index in 0..locators.len() {
         let locator = &locators[index];
         if is_cut(bytes, locator) {
-            return Some(Refusal {
-                line: SHORT_LINE,
-                index: index as u64,
-                place: u64::from(locator.place),
-            });
+            return Some(Refusal::new(SECTION_SHORT, index as u64, u64::from(locator.place)));
         }
     }
     None

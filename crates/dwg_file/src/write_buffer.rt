@@ -79,10 +79,7 @@ impl WriteBuffer {
         }
         let (prefix, rest) = bytes.split_at(free);
         append_bytes(&mut self.bytes, prefix);
-        match send(&mut self.bytes, sink) {
-            Ok(()) => {}
-            Err(WriteFault) => return Err(WriteFault),
-        }
+        send(&mut self.bytes, sink)?;
         if rest.len() < LEAST_PIECE {
             append_bytes(&mut self.bytes, rest);
             return Ok(());

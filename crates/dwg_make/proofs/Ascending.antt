@@ -8,7 +8,7 @@ use Rattle.std.proofs.lemmas.List.Kept.{AllPairs-cons}
 use Rattle.dwg_object.specs.Objects.{ObjectValue, handle_of}
 use Rattle.dwg_file.specs.Spelled.{AreAscending}
 use Rattle.dwg_make.specs.Fixed.{block_control, layer_control, style_control, ltype_control, appid_control, dictionary, xrecord, layer, style, appid, ltype, block_header, attribute_definition, line_of_block, attribute, insert, controls, dictionaries, table_entries, model_space, paper_space, tag_block, tag_insert, fixed_objects, by_block, by_layer, continuous, model_header, model_begin, model_end, paper_header, paper_begin, paper_end, tag_header, tag_begin, tag_end, attributes_end}
-use Rattle.dwg_make.specs.Further.{drawn_entity, further_entity}
+use Rattle.dwg_make.specs.RandomEntities.{drawn_entity, further_entity}
 
 -- handles from a number on, each above the one before
 abbrev Ascend : ℕ → List ObjectValue → Type 0

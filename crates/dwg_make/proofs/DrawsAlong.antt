@@ -6,7 +6,7 @@ use Rattle.std.proofs.lemmas.List.FromFn.{map-range_with_len_more}
 use Rattle.dwg_object.specs.Objects.{ObjectValue}
 use Rattle.dwg_make.specs.declared.random.Draw.{Draw}
 use Rattle.dwg_make.specs.Draws.{draw_from}
-use Rattle.dwg_make.specs.Further.{drawn_entity, further_entity}
+use Rattle.dwg_make.specs.RandomEntities.{drawn_entity, further_entity}
 use Rattle.dwg_make.specs.Random.{state_at, next_state}
 
 -- states after a state are states after its seed

@@ -17,7 +17,7 @@ use Rattle.dwg_shapes.specs.Lines.{line_body}
 use Rattle.dwg_shapes.specs.LwPolylines.{lwpolyline_body}
 use Rattle.dwg_shapes.specs.Points.{point_body}
 use Rattle.dwg_make.specs.Draws.{STATES_OF_ENTITY, draw_from}
-use Rattle.dwg_make.specs.Further.{further_number, further_body, further_handle, further_layer, drawn_entity, further_entity}
+use Rattle.dwg_make.specs.RandomEntities.{further_number, further_body, further_handle, further_layer, drawn_entity, further_entity}
 use Rattle.dwg_make.specs.Parts.{flat_point, point, links, model_entity}
 use Rattle.dwg_make.specs.Random.{next_state, state_at, word_of}
 use Rattle.dwg_make.proofs.CommonsMade.{unlinked}

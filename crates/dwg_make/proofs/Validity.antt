@@ -13,7 +13,7 @@ use Rattle.dwg_file.proofs.MapSize.{map_short}
 use Rattle.dwg_file.proofs.ObjectSize.{IsSmall, small_valid, frames_short, length_of_placed}
 use Rattle.dwg_file.specs.Valid.{IsValid}
 use Rattle.dwg_make.specs.Fixed.{controls, dictionaries, table_entries, model_space, paper_space, tag_block, tag_insert, fixed_objects}
-use Rattle.dwg_make.specs.Further.{further_entity}
+use Rattle.dwg_make.specs.RandomEntities.{further_entity}
 use Rattle.dwg_make.specs.Made.{made}
 use Rattle.dwg_make.proofs.Ascending.{all_ascend}
 use Rattle.dwg_make.proofs.FixedBlocks.{model_space_small, paper_space_small, tag_block_small, tag_insert_small}

@@ -7,6 +7,6 @@ pub mod Fixed
 -- What the random numbers of one entity give.
 pub mod Draws
 -- The entities of a made drawing that follow its fixed objects, drawn by random numbers.
-pub mod Further
+pub mod RandomEntities
 -- The drawing that two numbers make: how many entities follow its fixed objects, and the seed of the random numbers.
 pub mod Made

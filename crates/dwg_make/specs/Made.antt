@@ -4,7 +4,7 @@ use Rattle.std.specs.List.{range_with_len}
 use Rattle.dwg_base.specs.declared.version.Version.TheVariants.{Ac1015}
 use Rattle.dwg_file.specs.Contents.{Contents}
 use Rattle.dwg_make.specs.Fixed.{fixed_objects}
-use Rattle.dwg_make.specs.Further.{further_entity}
+use Rattle.dwg_make.specs.RandomEntities.{further_entity}
 
 -- the most entities that can be asked for
 abbrev pub MOST_ENTITIES : ℕ

@@ -5,15 +5,15 @@ ghost use Rattle.std.specs.List.{range_with_len};
 ghost use Rattle.dwg_object.specs.Objects.{value_of};
 ghost use Rattle.dwg_file.specs.Contents.{contents_of};
 ghost use Rattle.dwg_make.specs.Fixed.{fixed_objects};
-ghost use Rattle.dwg_make.specs.Further.{further_entity};
+ghost use Rattle.dwg_make.specs.RandomEntities.{further_entity};
 ghost use Rattle.dwg_make.specs.Made.{MOST_ENTITIES, made};
 
 use crate::blocks::{make_model_space, make_paper_space};
 use crate::controls::make_controls;
 use crate::dictionaries::make_dictionaries;
-use crate::further::make_further;
 use crate::lists::no_bytes;
 use crate::making::Making;
+use crate::random_entities::make_further;
 use crate::tables::make_entries;
 use crate::tag_block::{make_block, make_insert};
 use dwg_base::{Items, NoMemory, Version};

@@ -1,6 +1,6 @@
 -- The text of a drill. A rule of this project.
 use Rattle.std.specs.Prelude.{ℕ, List, ◌++◌, ◌-◌, codes, decimal, length, replicate, Option, Some, None}
-use Rattle.dwg_base.specs.declared.refusal.Refusal.{Refusal}
+use Rattle.dwg_base.specs.Refusal.{Refusal}
 use Rattle.dwg_drill.specs.declared.report.DrillReport.{DrillReport}
 use Rattle.dwg_text.specs.Lines.{line}
 use Rattle.dwg_text.specs.Notes.{refusal_words}

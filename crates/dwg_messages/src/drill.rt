@@ -2,7 +2,6 @@
 
 ghost use Rattle.std.specs.Prelude.{◌≡◌, ◌≤◌, ◌++◌, IfSome, IsErrOf, OnOk, codes, decimal};
 ghost use Rattle.dwg_base.specs.Devices.{LAST_COUNT, Rose, Sends};
-ghost use Rattle.dwg_base.specs.Refusals.{IsOfTable};
 ghost use Rattle.dwg_messages.specs.DrillText as texts;
 ghost use Rattle.dwg_text.specs.Lines.{line};
 ghost use Rattle.dwg_text.specs.Writing.{WritesText};
@@ -29,7 +28,6 @@ impl Value for CheckWord {
 /// Writes the first fault of a changed file.
 #[tactic(auto, unfolding(crate::specs::DrillText::fault_text))]
 fn write_fault<W: Sink>(fault: Option<Refusal>, writer: &mut TextWriter, sink: &mut W)
-    requires of_table { IfSome fault IsOfTable }
     ensures { WritesText writer.old writer.new (W.taken sink.old) (W.taken sink.new) (W.faults sink.old) (W.faults sink.new) (texts.fault_text fault) }
 {
     match fault {
@@ -45,7 +43,6 @@ fn write_changed<W: Sink>(
     writer: &mut TextWriter,
     sink: &mut W,
 )
-    requires of_table { IfSome fault IsOfTable }
     ensures { WritesText writer.old writer.new (W.taken sink.old) (W.taken sink.new) (W.faults sink.old) (W.faults sink.new) (line (codes "changed " ++ decimal middle ++ codes " " ++ texts.fault_text fault)) }
 {
     writer.write("changed ", sink);
@@ -57,7 +54,6 @@ fn write_changed<W: Sink>(
 
 /// Writes what a drill found out.
 fn write_report<W: Sink>(report: &DrillReport, writer: &mut TextWriter, sink: &mut W)
-    requires of_table { IfSome report.now.fault IsOfTable }
     ensures { WritesText writer.old writer.new (W.taken sink.old) (W.taken sink.new) (W.faults sink.old) (W.faults sink.new) (texts.drill_text report.now) }
 {
     write_line("drill ", &report.entities, writer, sink);
@@ -76,7 +72,6 @@ pub fn print_drill<W: Sink>(
     report: &DrillReport,
     sink: &mut W,
 ) -> Result<(), ShowFault>
-    requires of_table { IfSome report.now.fault IsOfTable }
     ensures bytes { Sends (W.taken sink.old) (W.taken sink.new) (texts.drill_text report.now) result }
     ensures never_falls { W.faults sink.old ≤ W.faults sink.new }
     ensures stands { W.faults sink.old ≡ LAST_COUNT → W.faults sink.new ≡ LAST_COUNT }

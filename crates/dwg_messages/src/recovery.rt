@@ -2,7 +2,6 @@
 
 ghost use Rattle.std.specs.Prelude.{◌≡◌, ◌≤◌, ◌++◌, codes, decimal, IsErrOf, OnOk};
 ghost use Rattle.dwg_base.specs.Devices.{LAST_COUNT, Rose, Sends};
-ghost use Rattle.dwg_base.specs.Refusals.{IsOfTable};
 ghost use Rattle.dwg_messages.specs.RecoveryNote as texts;
 ghost use Rattle.dwg_text.specs.Lines.{line};
 ghost use Rattle.dwg_text.specs.Writing.{WritesText};
@@ -93,7 +92,6 @@ fn write_recovery<W: Sink>(
     writer: &mut TextWriter,
     sink: &mut W,
 )
-    requires { IsOfTable refusal }
     ensures { WritesText writer.old writer.new (W.taken sink.old) (W.taken sink.new) (W.faults sink.old) (W.faults sink.new) (texts.recovery_note refusal losses.now kept.now) }
 {
     writer.write_made(refusal_line(writer.alloc, refusal), sink);
@@ -113,7 +111,6 @@ pub fn print_recovery<W: Sink>(
     kept: &[Kept],
     sink: &mut W,
 ) -> Result<(), ShowFault>
-    requires { IsOfTable refusal }
     ensures bytes { Sends (W.taken sink.old) (W.taken sink.new) (texts.recovery_note refusal losses.now kept.now) result }
     ensures never_falls { W.faults sink.old ≤ W.faults sink.new }
     ensures stands { W.faults sink.old ≡ LAST_COUNT → W.faults sink.new ≡ LAST_COUNT }

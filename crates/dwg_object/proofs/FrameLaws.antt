@@ -7,7 +7,7 @@ use Rattle.std.proofs.lemmas.Bool.Decides.{nat_tests}
 use Rattle.std.proofs.lemmas.List.{length-append, append_cancel_left}
 use Rattle.dwg_base.specs.Bytes.{AreBytes, StandsAt}
 use Rattle.dwg_base.specs.Refusals.{Tried}
-use Rattle.dwg_base.specs.declared.refusal.Refusal.{Refusal}
+use Rattle.dwg_base.specs.Refusal.{Refusal}
 use Rattle.dwg_bits.specs.Bits.{bits}
 use Rattle.dwg_check.specs.CheckWord.{CHECK_SEED, check_word}
 use Rattle.dwg_check.proofs.CheckWordLaws.{check_word_fits}

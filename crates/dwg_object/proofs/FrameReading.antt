@@ -4,7 +4,7 @@ use Rattle.dwg_base.specs.declared.version.Version.{Version}
 use Rattle.std.specs.Prelude.{Ok, Err}
 use Rattle.dwg_base.proofs.ByteLists.{are_bytes}
 use Rattle.dwg_base.specs.Refusals.{Tried}
-use Rattle.dwg_base.specs.declared.refusal.Refusal.{Refusal}
+use Rattle.dwg_base.specs.Refusal.{Refusal}
 use Rattle.dwg_bits.specs.Bits.{bits}
 use Rattle.dwg_classes.specs.declared.class.Class.{Class}
 use Rattle.dwg_grammar.proofs.ModularLemmas.{ms_is_code, ms_below}

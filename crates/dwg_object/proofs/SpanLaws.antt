@@ -5,7 +5,7 @@ use Rattle.std.proofs.lemmas.Bool.Decides.{nat_tests}
 use Rattle.std.proofs.lemmas.List.{append_assoc, length-append, length-drop, length-take-le, take-append-drop}
 use Rattle.dwg_base.specs.Bytes.{AreBytes, StandsAt}
 use Rattle.dwg_base.specs.Refusals.{Tried}
-use Rattle.dwg_base.specs.declared.refusal.Refusal.{Refusal}
+use Rattle.dwg_base.specs.Refusal.{Refusal}
 use Rattle.dwg_grammar.proofs.CodeLemmas.{unique_of_code, reads_none}
 use Rattle.dwg_grammar.proofs.CombinatorLemmas.{bytes_closed}
 use Rattle.dwg_grammar.specs.ModularCodes.{ms}

@@ -2,7 +2,6 @@
 
 ghost use Rattle.std.specs.Prelude.{◌≡◌, ◌+◌, ◌≤◌, ℕ, List, length, IfOk, IfErr};
 ghost use Rattle.std.specs.Int.{w16, from_le_bytes};
-ghost use Rattle.dwg_base.specs.Refusals.{IsFaultOfTable};
 ghost use Rattle.dwg_object.specs.Forms.{FormOf};
 ghost use Rattle.dwg_object.specs.FoundFrames.{AnswersFrame};
 ghost use Rattle.dwg_object.specs.FrameLines.{bytes_from, has_check_word, span_body, tried_frame};
@@ -12,16 +11,12 @@ ghost use Rattle.dwg_object.specs.Objects.{IsBorrowedObject, value_of};
 use crate::head::head_of;
 use crate::object::Object;
 use crate::reading::read_after_head;
-use crate::span::{Span, frame_refusal, span_at};
-use dwg_base::{Fault, NoMemory, Version};
+use crate::span::{Span, span_at};
+use dwg_base::refusal_lines::{FRAME_CHECK, FRAME_HEAD};
+use dwg_base::{Fault, NoMemory, Refusal, Version};
 use dwg_check::{CHECK_SEED, check};
 use dwg_classes::{Class, Hints};
 use std::alloc::Global;
-
-// The lines of the table on the check word of a frame and on the head of its body.
-const CHECK_LINE: u8 = 30;
-
-const HEAD_LINE: u8 = 31;
 
 /// An object that was read, and where its frame ends.
 #[derive(Drop)]
@@ -89,14 +84,13 @@ pub fn read_span<'a>(
 
     // What is found and what is refused is what is tried; there is out of memory beside.
     ensures tried { AnswersFrame result (tried_frame version span.now.from index bytes.now) }
-    ensures of_table { IfErr result IsFaultOfTable }
 {
     if !has_frame_word(bytes, span) {
-        return Err(Fault::Refused(frame_refusal(CHECK_LINE, index, span.from)));
+        return Err(Fault::Refused(Refusal::new(FRAME_CHECK, index, span.from)));
     }
     let body = piece(bytes, span.body, span.body_end);
     let Some(head) = head_of(version, body) else {
-        return Err(Fault::Refused(frame_refusal(HEAD_LINE, index, span.from)));
+        return Err(Fault::Refused(Refusal::new(FRAME_HEAD, index, span.from)));
     };
     let object = read_after_head(alloc, body, &head, hints, version)?;
     Ok(Found {
@@ -124,7 +118,6 @@ pub fn read_frame<'a>(
 
     // What is found and what is refused is what is tried; there is out of memory beside.
     ensures tried { AnswersFrame result (tried_frame version place index bytes.now) }
-    ensures of_table { IfErr result IsFaultOfTable }
 {
     let span = span_at(bytes, place, index)?;
     let hints = Hints::build(alloc, classes)?;

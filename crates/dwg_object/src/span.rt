@@ -1,17 +1,12 @@
 //! Where the parts of a frame lie.
 
 ghost use Rattle.std.specs.Prelude.{◌≡◌, ◌+◌, ◌≤◌, length, IfOk, IfErr};
-ghost use Rattle.dwg_base.specs.Refusals.{IsOfTable};
 ghost use Rattle.dwg_object.specs.Frames.{SpanAt};
-ghost use Rattle.dwg_object.specs.FrameLines.{frame_refusal, tried_span};
+ghost use Rattle.dwg_object.specs.FrameLines.{tried_span};
 
+use dwg_base::refusal_lines::{FRAME_LENGTH, FRAME_PLACE};
 use dwg_base::{Refusal, bytes_after};
 use dwg_codes::read_ms;
-
-// The lines of the table on the place and the length of a frame.
-const PLACE_LINE: u8 = 27;
-
-const LENGTH_LINE: u8 = 28;
 
 /// The bytes of the check word, which stands after the body.
 pub(crate) const CHECK_SIZE: u64 = 2;
@@ -29,13 +24,6 @@ pub struct Span {
     pub end: u64,
 }
 
-/// The refusal of a pair's frame by a line, at the pair's place.
-pub(crate) fn frame_refusal(line: u8, index: u64, place: u64) -> Refusal
-    ensures { result ≡ frame_refusal line index place }
-{
-    Refusal { line, index, place }
-}
-
 /// The span of the frame at a place of the input, of the pair of this index. It is refused where the place is after the
 /// input, and where no length is spelled there or the frame passes the end of the input.
 #[tactic(auto, using(crate::proofs::SpanReading::span_after))]
@@ -46,21 +34,19 @@ pub fn span_at(bytes: &[u8], place: u64, index: u64) -> Result<Span, Refusal>
     ensures ordered { IfOk result (λ span. (span.from ≤ span.body) × (span.body ≤ span.body_end) × (span.end ≡ span.body_end + 2)) }
     ensures within { IfOk result (λ span. span.end ≤ length bytes.now) }
     ensures tried { result ≡ tried_span place index bytes.now }
-
-    ensures of_table { IfErr result IsOfTable }
 {
     let length = bytes.len() as u64;
     if length <= place {
-        return Err(frame_refusal(PLACE_LINE, index, place));
+        return Err(Refusal::new(FRAME_PLACE, index, place));
     }
     let Some((long, wide)) = read_ms(bytes_after(bytes, place as usize)) else {
-        return Err(frame_refusal(LENGTH_LINE, index, place));
+        return Err(Refusal::new(FRAME_LENGTH, index, place));
     };
     let body = place + wide as u64;
     let body_end = body + long;
     let end = body_end + CHECK_SIZE;
     if length < end {
-        return Err(frame_refusal(LENGTH_LINE, index, place));
+        return Err(Refusal::new(FRAME_LENGTH, index, place));
     }
     Ok(Span {
         from: place,

@@ -2,48 +2,15 @@
 use Rattle.std.proofs.Common.{◌≡◌, sym, ◌∙◌, ap, subst, ℕ, suc, ◌+◌, ◌-◌, ◌<◌, ◌≤◌, List, [], length, get_or, arith, add-one, inl, inr}
 use Rattle.std.specs.Prelude.{Ok, Err}
 use Rattle.dwg_base.proofs.ByteLists.{are_bytes}
-use Rattle.dwg_base.specs.Refusals.{Tried, Answers, IfRefused, IsOfTable, IsFaultOfTable}
-use Rattle.dwg_base.specs.declared.refusal.Refusal.{Refusal}
+use Rattle.dwg_base.specs.Refusals.{Tried, Answers, IfRefused}
+use Rattle.dwg_base.specs.Refusal.{Refusal}
 use Rattle.dwg_base.specs.declared.refusal.Fault.{Fault}
 use Rattle.dwg_base.specs.declared.refusal.Fault.TheVariants.{NoMemory, Refused}
 use Rattle.dwg_objmap.specs.declared.pair.Pair.{Pair}
 use Rattle.dwg_objmap.specs.Pages.{PageAt, AreHandles, handles_of, MapOf}
-use Rattle.dwg_objmap.specs.MapLines.{map_refusal, word_at, page_end, page_after, pages_after, tried_page, tried_map, FailsAtPair, RefusesPage, RefusesMap}
+use Rattle.dwg_objmap.specs.MapLines.{word_at, page_end, page_after, pages_after, tried_page, tried_map, RefusesPage, RefusesMap}
 use Rattle.dwg_objmap.proofs.MapLemmas.{page_fails, page_ends, page_follows, page_is_tried, page_is_refused, map_is_tried, map_is_refused}
 use Rattle.dwg_objmap.specs.Reading.{AnswersPage}
-
--- a refusal by one of the lines on the map is by a line of the table
-of_line : (line index place : ℕ) (refusal : Refusal) → 21 ≤ line → line ≤ 26 → refusal ≡ map_refusal line index place → IsOfTable refusal
-of_line line index place refusal least most is = subst IsOfTable (sym is) (record { least = omega arith; most = omega arith })
-
--- a pair that fails does so by a line of the table
-pair_of_table : (seen : List Pair) (place index : ℕ) (body : List ℕ) (refusal : Refusal) → FailsAtPair seen place index body refusal → IsOfTable refusal
-pair_of_table seen place index body refusal fails =
-    elim fails.fails [
-      | inl none ↦ of_line 24 index _ refusal (omega arith) (omega arith) none.0
-      | inr bad ↦ elim bad.5 [
-        | inl null ↦ of_line 25 index _ refusal (omega arith) (omega arith) null.0
-        | inr again ↦ of_line 26 index _ refusal (omega arith) (omega arith) again.0
-      ]
-    ]
-
--- so is a page refused by one
-page_of_table : (seen : List Pair) (place index : ℕ) (bytes : List ℕ) (refusal : Refusal) → RefusesPage seen place index bytes refusal → IsOfTable refusal
-page_of_table seen place index bytes refusal (inl short) = of_line 21 index place refusal (omega arith) (omega arith) short.0
-page_of_table seen place index bytes refusal (inr (inl cut)) = of_line 21 index place refusal (omega arith) (omega arith) cut.0
-page_of_table seen place index bytes refusal (inr (inr (inl small))) = of_line 22 index place refusal (omega arith) (omega arith) small.0
-page_of_table seen place index bytes refusal (inr (inr (inr (inl wrong)))) = of_line 23 index _ refusal (omega arith) (omega arith) wrong.0
-page_of_table seen place index bytes refusal (inr (inr (inr (inr fails)))) = pair_of_table seen _ index _ refusal fails.2
-
--- the fault of a page is a refusal by a line of the table, or out of memory
-pub page_fault_of_table : (fault : Fault) (place index : ℕ) (bytes : List ℕ) → IfRefused fault (RefusesPage [] place index bytes) → IsFaultOfTable fault
-page_fault_of_table NoMemory place index bytes refused = tt
-page_fault_of_table (Refused refusal) place index bytes refused = page_of_table [] place index bytes refusal refused
-
--- and that of a map too
-pub map_fault_of_table : (fault : Fault) (place : ℕ) (bytes : List ℕ) → IfRefused fault (RefusesMap place bytes) → IsFaultOfTable fault
-map_fault_of_table NoMemory place bytes refused = tt
-map_fault_of_table (Refused refusal) place bytes refused = page_of_table _ refused.last _ bytes refusal refused.refuses
 
 -- the pairs that were read of a page are those that are tried
 pub page_tried : (seen gathered pairs : List Pair) (place index : ℕ) (bytes : List ℕ) → seen ≡ [] → page_after seen place index bytes ≡ Ok gathered → pairs ≡ gathered

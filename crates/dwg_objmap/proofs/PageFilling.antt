@@ -11,7 +11,7 @@ use Rattle.dwg_objmap.specs.declared.pair.Pair.{Pair}
 use Rattle.dwg_objmap.specs.Pairs.{IsPair, pair_after}
 use Rattle.dwg_objmap.specs.Writing.{MOST_PAGE, reported_after, has_room, added}
 use Rattle.dwg_objmap.proofs.FillingLemmas.{pair_few, pair_written}
-use Rattle.dwg_objmap.specs.OpenPages.{page_of, HasPairRoom}
+use Rattle.dwg_objmap.specs.PageFilling.{page_of, HasPairRoom}
 
 -- the page's size with a pair
 pub room_reported : (bytes : List ℕ) (last before pair : Pair) (more : ℕ) → 2 ≤ length bytes → before ≡ reported_after (drop 2 bytes) last → more ≡ length ((pair_after before).short pair)

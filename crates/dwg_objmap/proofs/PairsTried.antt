@@ -5,7 +5,7 @@ use Rattle.std.proofs.lemmas.Bool.Decides.{nat_tests}
 use Rattle.std.proofs.lemmas.List.{append-nil}
 use Rattle.dwg_base.specs.Bytes.{AreBytes}
 use Rattle.dwg_base.specs.Refusals.{Tried}
-use Rattle.dwg_base.specs.declared.refusal.Refusal.{Refusal}
+use Rattle.dwg_base.specs.Refusal.{Refusal}
 use Rattle.dwg_grammar.specs.Grammar.{Grammar, IsCode, BeginsWith}
 use Rattle.dwg_grammar.proofs.CombinatorLemmas.{bytes_closed}
 use Rattle.dwg_grammar.proofs.CodeLemmas.{reads_none}

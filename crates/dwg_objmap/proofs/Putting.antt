@@ -13,7 +13,7 @@ use Rattle.dwg_objmap.specs.Writing.{MOST_PAGE, OpenPage, reported_after, has_ro
 use Rattle.dwg_objmap.proofs.FillingLemmas.{filled_on, filled_new, given_none, given_page}
 use Rattle.dwg_objmap.proofs.PageFilling.{short_few}
 use Rattle.dwg_objmap.proofs.PairChains.{origin_is_pair}
-use Rattle.dwg_objmap.specs.OpenPages.{page_of}
+use Rattle.dwg_objmap.specs.PageFilling.{page_of}
 
 -- where there is room, no bytes go out
 pub none_given : (bytes : List ℕ) (last pair : Pair) (ended room : Bool) (page : OpenPage) (known : Option (List ℕ)) → page_of bytes last ended ≡ page → room ≡ has_room (page_of bytes last true) pair

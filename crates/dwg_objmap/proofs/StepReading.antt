@@ -7,7 +7,7 @@ use Rattle.dwg_base.specs.Refusals.{Tried, Answers}
 use Rattle.dwg_base.specs.declared.refusal.Fault.{Fault}
 use Rattle.dwg_base.specs.declared.refusal.Fault.TheVariants.{NoMemory, Refused}
 use Rattle.dwg_objmap.specs.Reading.{GoesOn}
-use Rattle.dwg_base.specs.declared.refusal.Refusal.{Refusal}
+use Rattle.dwg_base.specs.Refusal.{Refusal}
 use Rattle.dwg_objmap.specs.declared.pair.Pair.{Pair}
 use Rattle.dwg_objmap.specs.Pairs.{pair_after}
 use Rattle.dwg_objmap.specs.MapLines.{map_refusal, has_handle, pairs_after, page_after, word_at, HasPage, HasPageWord}

@@ -7,7 +7,7 @@ pub mod MapLines
 -- How the object map is written: which pairs go into which page.
 pub mod Writing
 -- How a writer holds the page that is being filled.
-pub mod OpenPages
+pub mod PageFilling
 -- The length of a map, counted pair by pair.
 pub mod MapLength
 -- Which handles a list of pairs has, reported by the highest while they ascend and by a set from there on.

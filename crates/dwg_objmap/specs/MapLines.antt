@@ -2,7 +2,7 @@
 use Rattle.std.specs.Prelude.{◌≡◌, ◌≢◌, ◌⊎◌, Bool, ℕ, zero, suc, ◌+◌, ◌-◌, ◌*◌, ◌<◌, ◌≤◌, not, ◌&&◌, List, [], ◌∷◌, ◌++◌, length, take, drop, flat_map, slice_index, nat_lt, ◌==◌, Option, Some, None, Ok, Err, Contains, if◌then◌else◌}
 use Rattle.std.specs.List.{list_any}
 use Rattle.dwg_base.specs.Refusals.{Tried}
-use Rattle.dwg_base.specs.declared.refusal.Refusal.{Refusal}
+use Rattle.dwg_base.specs.Refusal.{Refusal}
 use Rattle.dwg_check.specs.CheckWord.{CHECK_SEED, check_word}
 use Rattle.dwg_grammar.specs.Grammar.{BeginsWith}
 use Rattle.dwg_objmap.specs.declared.pair.Pair.{Pair}

@@ -2,7 +2,7 @@
 
 ghost use Rattle.std.specs.Prelude.{◌≡◌, ◌↔◌, ◌++◌, ◌∷◌, ℕ, List, [], Ok, Err};
 ghost use Rattle.dwg_base.specs.Bytes.{AreBytes, StandsAt};
-ghost use Rattle.dwg_base.specs.declared.refusal.Refusal.{Refusal};
+ghost use Rattle.dwg_base.specs.Refusal.{Refusal};
 ghost use Rattle.dwg_objmap.specs.declared.pair.Pair.{Pair};
 ghost use Rattle.dwg_objmap.specs.Pages.{PageAt, AreHandles, handles_of, MapOf};
 ghost use Rattle.dwg_objmap.specs.MapLines.{page_end, tried_page, tried_map, RefusesPage, RefusesMap};

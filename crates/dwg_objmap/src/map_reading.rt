@@ -1,42 +1,22 @@
 //! Reading the map: its pages one after the other, and the pairs of each.
 
 ghost use Rattle.std.specs.Prelude.{◌≡◌, ℕ, ◌+◌, ◌-◌, ◌^◌, ◌<◌, ◌≤◌, List, [], drop, length, Ok, Err, IfOk, OnOk, IfErr, IfSome, IfNone};
-ghost use Rattle.dwg_base.specs.Refusals.{Answers, IfRefused, IsFaultOfTable};
+ghost use Rattle.dwg_base.specs.Refusals.{Answers, IfRefused};
 ghost use Rattle.dwg_objmap.specs.declared.pair.Pair.{Pair};
 ghost use Rattle.dwg_objmap.specs.Pairs.{ORIGIN};
 ghost use Rattle.dwg_objmap.specs.Pages.{PageAt, AreHandles, handles_of, MapOf};
-ghost use Rattle.dwg_objmap.specs.MapLines.{map_refusal, word_at, page_end, pairs_after, page_after, pages_after, tried_page, tried_map, HasPage, HasPageWord, RefusesPage, RefusesMap};
+ghost use Rattle.dwg_objmap.specs.MapLines.{word_at, page_end, pairs_after, page_after, pages_after, tried_page, tried_map, HasPage, HasPageWord, RefusesPage, RefusesMap};
 ghost use Rattle.dwg_objmap.specs.Reading.{GoesOn, AnswersPage};
 
 use crate::distinct_pairs::DistinctPairs;
 use crate::page_places::{Page, body, is_right, word_at};
 use crate::pair::{Pair, origin, read_pair};
+use dwg_base::refusal_lines::{MAP_CHECK, MAP_DUPLICATE, MAP_NULL, MAP_PAIR, MAP_SHORT, MAP_SIZE};
 use dwg_base::{Fault, Items, NoMemory, Refusal, bytes_after};
 use std::alloc::Global;
 
 /// The size of the page that ends the map: no more than its own two bytes.
 const END_SIZE: u64 = 2;
-
-// The lines of the table on a page: it is short, its size, its check word.
-const PAGE_SHORT_LINE: u8 = 21;
-
-const SIZE_LINE: u8 = 22;
-
-const CHECK_LINE: u8 = 23;
-
-// And on a pair in it: it isn't spelled, its handle is null, an earlier pair has it.
-const PAIR_LINE: u8 = 24;
-
-const NULL_LINE: u8 = 25;
-
-const DUPLICATE_LINE: u8 = 26;
-
-/// The refusal of a page, or of a pair in it, by a line of the table.
-fn refusal(line: u8, index: u64, place: u64) -> Refusal
-    ensures { result ≡ map_refusal line index place }
-{
-    Refusal { line, index, place }
-}
 
 /// Why the page at a place is refused, whatever its pairs: it is short, its size is below 2, or its check word is wrong.
 fn refusal_of_page(bytes: &[u8], place: u64, index: u64) -> Option<Refusal>
@@ -46,17 +26,17 @@ fn refusal_of_page(bytes: &[u8], place: u64, index: u64) -> Option<Refusal>
 {
     let length = bytes.len() as u64;
     if length.saturating_sub(place) < 2 {
-        return Some(refusal(PAGE_SHORT_LINE, index, place));
+        return Some(Refusal::new(MAP_SHORT, index, place));
     }
     let size = word_at(bytes, place as usize);
     if size < 2 {
-        return Some(refusal(SIZE_LINE, index, place));
+        return Some(Refusal::new(MAP_SIZE, index, place));
     }
     if length - place - 2 < size {
-        return Some(refusal(PAGE_SHORT_LINE, index, place));
+        return Some(Refusal::new(MAP_SHORT, index, place));
     }
     if !is_right(bytes, place as usize, size as usize) {
-        return Some(refusal(CHECK_LINE, index, place + size));
+        return Some(Refusal::new(MAP_CHECK, index, place + size));
     }
     None
 }
@@ -82,13 +62,13 @@ fn read_next(
     ensures used { IfOk result (λ step. step.used ≤ length rest.now) }
 {
     let Some((pair, used)) = read_pair(last, rest) else {
-        return Err(Fault::Refused(refusal(PAIR_LINE, index, place)));
+        return Err(Fault::Refused(Refusal::new(MAP_PAIR, index, place)));
     };
     if pair.handle.value() == 0 {
-        return Err(Fault::Refused(refusal(NULL_LINE, index, place)));
+        return Err(Fault::Refused(Refusal::new(MAP_NULL, index, place)));
     }
     let Some(gathered) = gathered.with_pair(&pair)? else {
-        return Err(Fault::Refused(refusal(DUPLICATE_LINE, index, place)));
+        return Err(Fault::Refused(Refusal::new(MAP_DUPLICATE, index, place)));
     };
     Ok(Step {
         gathered,
@@ -159,7 +139,6 @@ pub fn read_page(alloc: Global, bytes: &[u8], place: u64, index: u64) -> Result<
 
     // The first line of the table that fails, or out of memory.
     ensures refused { IfErr result (λ fault. IfRefused fault (RefusesPage [] place index bytes.now)) }
-    ensures of_table { IfErr result IsFaultOfTable }
 
     // What trying the page gives.
     ensures tried { AnswersPage result (tried_page place index bytes.now) (page_end bytes.now place) }
@@ -198,7 +177,6 @@ pub fn read_map(alloc: Global, bytes: &[u8], place: u64) -> Result<Items<Pair>, 
 
     // The first line of the table that fails, or out of memory.
     ensures refused { IfErr result (λ fault. IfRefused fault (RefusesMap place bytes.now)) }
-    ensures of_table { IfErr result IsFaultOfTable }
 
     // What trying the map gives.
     ensures tried { Answers result (tried_map place bytes.now) }

@@ -8,7 +8,7 @@ ghost use Rattle.dwg_base.specs.Devices.{Counts, Sends};
 ghost use Rattle.dwg_objmap.specs.Pairs.{IsPair, move_between, pair_after};
 ghost use Rattle.dwg_objmap.specs.Pages.{page_bytes};
 ghost use Rattle.dwg_objmap.specs.Writing.{MOST_PAGE, FRESH, reported_after, has_room, given, filled, closing_body, closing};
-ghost use Rattle.dwg_objmap.specs.OpenPages.{page_of, IsPage, HasPairRoom};
+ghost use Rattle.dwg_objmap.specs.PageFilling.{page_of, IsPage, HasPairRoom};
 
 use crate::pair::{Pair, origin};
 use dwg_base::{
@@ -205,7 +205,7 @@ impl Model for PageWriter {
     ghost Value = { OpenPage };
 
     ghost use Rattle.dwg_objmap.specs.Pairs.{IsPair};
-    ghost use Rattle.dwg_objmap.specs.OpenPages.{page_of, IsPage, HasPairRoom};
+    ghost use Rattle.dwg_objmap.specs.PageFilling.{page_of, IsPage, HasPairRoom};
 
     ghost view = { λ writer. page_of writer.page.items writer.last writer.ended };
 
@@ -277,10 +277,7 @@ impl PageWriter {
         ensures ended { self.new.ended ≡ true }
     {
         self.ended = true;
-        match send_filled(&mut self.page, sink) {
-            Ok(()) => {}
-            Err(WriteFault) => return Err(WriteFault),
-        }
+        send_filled(&mut self.page, sink)?;
         send_page(&mut self.page, sink)
     }
 }

@@ -7,7 +7,7 @@ use Rattle.std.specs.Result.{result_ok}
 use Rattle.std.proofs.lemmas.Bool.Decides.{nat_tests}
 use Rattle.std.proofs.lemmas.List.{drop_all}
 use Rattle.dwg_base.specs.Refusals.{Tried}
-use Rattle.dwg_base.specs.declared.refusal.Refusal.{Refusal}
+use Rattle.dwg_base.specs.Refusal.{Refusal}
 use Rattle.dwg_object.specs.declared.span.Span.{Span}
 use Rattle.dwg_object.specs.FrameLines.{tried_span}
 use Rattle.dwg_objmap.specs.declared.pair.Pair.{Pair}

@@ -7,7 +7,7 @@ use Rattle.std.specs.Option.{IsSome, is_some, option_and_then}
 use Rattle.std.specs.Result.{result_ok}
 use Rattle.std.proofs.lemmas.Bool.{both_ways}
 use Rattle.std.proofs.lemmas.Option.{same_Some}
-use Rattle.dwg_base.specs.declared.refusal.Refusal.{Refusal}
+use Rattle.dwg_base.specs.Refusal.{Refusal}
 use Rattle.dwg_bits.specs.Bits.{bits}
 use Rattle.dwg_classes.specs.declared.class.Class.{Class}
 use Rattle.dwg_grammar.proofs.ModularLemmas.{ms_below, ms_is_code}

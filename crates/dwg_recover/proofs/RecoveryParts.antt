@@ -5,7 +5,7 @@ use Rattle.dwg_base.specs.Versions.{version_at}
 use Rattle.std.specs.Prelude.{Ok, Err, not}
 use Rattle.std.specs.Option.{is_none, is_some}
 use Rattle.std.proofs.lemmas.Option.{same_Some}
-use Rattle.dwg_base.specs.declared.refusal.Refusal.{Refusal}
+use Rattle.dwg_base.specs.Refusal.{Refusal}
 use Rattle.dwg_classes.specs.declared.class.Class.{Class}
 use Rattle.dwg_file.specs.Contents.{Contents, OtherValue}
 use Rattle.dwg_file.specs.ReadAs.{sections_at, whole_locators}

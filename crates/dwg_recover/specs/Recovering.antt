@@ -10,7 +10,7 @@ use Rattle.dwg_base.specs.Versions.{version_at}
 use Rattle.std.specs.Option.{is_none}
 use Rattle.std.specs.Result.{result_unwrap_or}
 use Rattle.dwg_base.specs.Refusals.{first_fault}
-use Rattle.dwg_base.specs.declared.refusal.Refusal.{Refusal}
+use Rattle.dwg_base.specs.Refusal.{Refusal}
 use Rattle.dwg_classes.specs.declared.class.Class.{Class}
 use Rattle.dwg_file.specs.Contents.{Contents}
 use Rattle.dwg_file.specs.DrawingAt.{drawing_at}

@@ -4,6 +4,7 @@
 mod candidates;
 mod damage;
 mod frame;
+mod input_recovery;
 mod kept;
 mod laws;
 mod loss;
@@ -13,10 +14,9 @@ mod objects;
 mod recovery;
 mod scan;
 mod sections;
-mod uncounted;
 
 pub use damage::short_damage_laws;
+pub use input_recovery::recover_input;
 pub use laws::{answer_laws, intact_laws, part_laws, recovered_laws};
 pub use loss::{Kept, Loss};
 pub use recovery::{Recovered, recover};
-pub use uncounted::recover_input;

@@ -4,7 +4,7 @@ ghost use Rattle.std.specs.Prelude.{◌≡◌, ◌+◌, ◌*◌, ◌≤◌, [], 
 ghost use Rattle.std.specs.List.{AllByRecursion};
 ghost use Rattle.std.specs.Result.{result_unwrap_or};
 ghost use Rattle.dwg_base.specs.Devices.{MOST_BYTES};
-ghost use Rattle.dwg_base.specs.Refusals.{IsOfTable, first_fault};
+ghost use Rattle.dwg_base.specs.Refusals.{Reports, first_fault};
 ghost use Rattle.dwg_file.specs.Contents.{contents_of};
 ghost use Rattle.dwg_file.specs.DrawingAt.{drawing_at};
 ghost use Rattle.dwg_file.specs.FileLines.{ALL_LINES, frames_tried};
@@ -341,13 +341,11 @@ fn recovered_of<'a>(
 ) -> Result<Recovered<'a>, NoMemory>
     requires limit { length bytes.now ≤ MOST_BYTES }
     requires refusal { first_fault ALL_LINES bytes.now ≡ Some refusal }
-    requires of_table { IsOfTable refusal }
     requires found { AreFound bytes.now found }
     requires losses { gathered.losses ≡ losses_of bytes.now }
     requires frames { gathered.kept.frames ≡ frames_kept bytes.now }
     requires objects { HoldsObjects (classes_found bytes.now) bytes.now gathered.kept }
     ensures recovered { IfOk result (λ value. recovered_value value ≡ recovered_damaged bytes.now) }
-    ensures of_table { IfOk result (λ value. IfSome value.refusal IsOfTable) }
 {
     let PartsFound {
         header,
@@ -376,9 +374,7 @@ fn recover_damaged<'a, L: Ledger>(
 ) -> Result<Recovered<'a>, NoMemory>
     requires limit { length bytes.now ≤ MOST_BYTES }
     requires refusal { first_fault ALL_LINES bytes.now ≡ Some refusal }
-    requires of_table { IsOfTable refusal }
     ensures recovered { IfOk result (λ value. recovered_value value ≡ recovered_damaged bytes.now) }
-    ensures of_table { IfOk result (λ value. IfSome value.refusal IsOfTable) }
     ensures steps { steps.new ≤ steps.old + 15 * (4 * length bytes.now + 4) }
 {
     let checks = SpanChecks::build(alloc, bytes)?;
@@ -432,7 +428,6 @@ fn recover_whole<'a>(
     requires drawing { contents_of read.drawing ≡ drawing_at bytes.now }
     requires frames { read.frames ≡ map frame_of (result_unwrap_or (frames_tried bytes.now) []) }
     ensures recovered { IfOk result (λ value. recovered_value value ≡ recovered_whole bytes.now) }
-    ensures of_table { IfOk result (λ value. IfSome value.refusal IsOfTable) }
 {
     let kept = map_reported(alloc, bytes, read.frames.as_slice())?;
     Ok(Recovered {
@@ -441,6 +436,24 @@ fn recover_whole<'a>(
         losses: Items::new(alloc),
         kept,
     })
+}
+
+/// What is recovered of an input in which a line fails; where memory was wanted, that. Err: out of memory.
+fn recover_refused<'a, L: Ledger>(
+    alloc: Global,
+    bytes: &'a [u8],
+    fault: Fault,
+    steps: &mut Steps<L>,
+) -> Result<Recovered<'a>, NoMemory>
+    requires limit { length bytes.now ≤ MOST_BYTES }
+    requires refused { Reports fault (first_fault ALL_LINES bytes.now) }
+    ensures recovered { IfOk result (λ value. recovered_value value ≡ recovered bytes.now) }
+    ensures steps { steps.new ≤ steps.old + 15 * (4 * length bytes.now + 4) }
+{
+    match fault {
+        Fault::Refused(refusal) => recover_damaged(alloc, bytes, refusal, steps),
+        Fault::NoMemory => Err(NoMemory),
+    }
 }
 
 /// Recovers what an input of at most 32 MiB holds. A rule of this project.
@@ -462,7 +475,6 @@ pub fn recover<'a, L: Ledger>(
     requires { length bytes.now ≤ MOST_BYTES }
     // What is recovered is what the rules say.
     ensures recovered { IfOk result (λ value. recovered_value value ≡ recovered bytes.now) }
-    ensures of_table { IfOk result (λ value. IfSome value.refusal IsOfTable) }
 
     // Check words of spans take few steps, whatever the input and the answer.
     ensures steps { steps.new ≤ steps.old + 26 * (4 * length bytes.now + 4) }
@@ -470,7 +482,6 @@ pub fn recover<'a, L: Ledger>(
     drawing_laws();
     match read_with_frames(alloc, bytes) {
         Ok(read) => recover_whole(alloc, bytes, read),
-        Err(Fault::Refused(refusal)) => recover_damaged(alloc, bytes, refusal, steps),
-        Err(Fault::NoMemory) => Err(NoMemory),
+        Err(fault) => recover_refused(alloc, bytes, fault, steps),
     }
 }

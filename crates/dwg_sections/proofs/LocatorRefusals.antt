@@ -5,7 +5,7 @@ use Rattle.std.specs.List.{range_with_len}
 use Rattle.std.proofs.lemmas.Bool.{both_ways, false_from_ne_true, not-false, not_from_true, not_from_false}
 use Rattle.std.proofs.lemmas.Option.{same_Some}
 use Rattle.dwg_base.proofs.RangeSearch.{first_from_found, found_from_first}
-use Rattle.dwg_base.specs.declared.refusal.Refusal.{Refusal}
+use Rattle.dwg_base.specs.Refusal.{Refusal}
 use Rattle.dwg_sections.specs.HeaderLines.{count_at, numbers_at, stands_earlier, is_missing, repeated_refusal, missing_refusal, repeated_line, missing_line}
 use Rattle.dwg_sections.specs.HeaderLaws.{IsFirstRepeated, RepeatedIsFirst, IsLeastMissing, MissingIsLeast}
 use Rattle.dwg_sections.proofs.LocatorStep.{numbers_counted}

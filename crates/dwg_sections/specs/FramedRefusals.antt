@@ -1,7 +1,7 @@
 -- Which line on a framed section at a place is the first that fails. A rule of this project, over the sections of the Open Design Specification, "R13 to R2000 file layout".
 use Rattle.std.specs.Prelude.{◌≡◌, ◌⊎◌, ℕ, ◌+◌, ◌<◌, ◌≤◌, ◌↔◌, List, length, Some}
 use Rattle.dwg_base.specs.Refusals.{first_fault}
-use Rattle.dwg_base.specs.declared.refusal.Refusal.{Refusal}
+use Rattle.dwg_base.specs.Refusal.{Refusal}
 use Rattle.dwg_check.specs.CheckWord.{CHECK_SEED, check_word}
 use Rattle.dwg_sections.specs.declared.framed.Framed.{Framed}
 use Rattle.dwg_sections.specs.Framed.{begin_sentinel, end_sentinel}

@@ -3,7 +3,7 @@ use Rattle.std.specs.Prelude.{◌≡◌, ℕ, ◌+◌, ◌*◌, ◌<◌, ◌↔�
 use Rattle.dwg_base.specs.Bytes.{AreBytes}
 use Rattle.dwg_base.specs.Refusals.{first_fault}
 use Rattle.dwg_base.specs.Versions.{version_at}
-use Rattle.dwg_base.specs.declared.refusal.Refusal.{Refusal}
+use Rattle.dwg_base.specs.Refusal.{Refusal}
 use Rattle.dwg_sections.specs.declared.header.Locator.{Locator}
 use Rattle.dwg_sections.specs.declared.header.FileHeader.{FileHeader}
 use Rattle.dwg_sections.specs.FileHeader.{IsFileHeader, BeginsWithHeader, OF_LOCATOR, WITHOUT_LOCATORS, header_bytes}

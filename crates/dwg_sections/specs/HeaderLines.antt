@@ -5,7 +5,7 @@ use Rattle.std.specs.Int.{w16, w32, from_le_bytes}
 use Rattle.dwg_base.specs.Refusals.{RefusalRow, refuse_if}
 use Rattle.dwg_base.specs.Versions.{version_at, version_bytes}
 use Rattle.dwg_base.specs.declared.version.Version.TheVariants.{Ac1014, Ac1015}
-use Rattle.dwg_base.specs.declared.refusal.Refusal.{Refusal}
+use Rattle.dwg_base.specs.Refusal.{Refusal}
 use Rattle.dwg_check.specs.CheckWord.{header_check_word}
 use Rattle.dwg_sections.specs.declared.header.Locator.{Locator}
 use Rattle.dwg_sections.specs.declared.header.FileHeader.{FileHeader}

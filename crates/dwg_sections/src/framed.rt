@@ -1,7 +1,7 @@
 //! Framed sections: the header variables and the classes.
 
-ghost use Rattle.std.specs.Prelude.{◌≡◌, ◌+◌, ◌≤◌, length, bytes_eq, ◌==◌, None, Some, IfOk, IfErr, OnOk, MatchOption};
-ghost use Rattle.dwg_base.specs.Refusals.{first_fault, IsOfTable};
+ghost use Rattle.std.specs.Prelude.{◌≡◌, ◌+◌, ◌≤◌, length, bytes_eq, ◌==◌, None, Some, IfOk, IfErr, OnOk, IfNone};
+ghost use Rattle.dwg_base.specs.Refusals.{first_fault};
 ghost use Rattle.dwg_check.specs.CheckWord.{CHECK_SEED, check_word};
 ghost use Rattle.dwg_sections.specs.HeaderLines.{bytes_at, rs_at};
 ghost use Rattle.dwg_sections.specs.Framed.{begin_sentinel, end_sentinel, FramedAt};
@@ -10,6 +10,7 @@ ghost use Rattle.dwg_sections.specs.FramedLines.{first_line, size_at, content_at
 use crate::fields::{piece, rl, rs};
 use crate::refusals::refusal;
 use dwg_base::Refusal;
+use dwg_base::refusal_lines::{CLASSES_SHORT, VARIABLES_SHORT};
 use dwg_check::{CHECK_SEED, check};
 
 /// A section that stands between sentinels (Open Design Specification, "R13 to R2000 file layout").
@@ -78,8 +79,8 @@ fn first_line(which: Framed) -> u8
     ensures most { result ≤ 14 }
 {
     match which {
-        Framed::Variables => 9,
-        Framed::Classes => 14,
+        Framed::Variables => VARIABLES_SHORT,
+        Framed::Classes => CLASSES_SHORT,
     }
 }
 
@@ -112,7 +113,7 @@ fn has_section_word(bytes: &[u8], place: usize, size: usize) -> bool
 #[tactic(auto, unfolding(crate::specs::FramedLines::framed_short_line, crate::specs::FramedLines::begin_line, crate::specs::FramedLines::length_line, crate::specs::FramedLines::framed_check_line, crate::specs::FramedLines::end_line))]
 fn refusal_of_framed(bytes: &[u8], place: u32, which: Framed) -> Option<Refusal>
     ensures first { result ≡ first_fault (framed_lines which place) bytes.now }
-    ensures outcome { MatchOption result (place + 38 + size_at bytes.now place ≤ length bytes.now) IsOfTable }
+    ensures whole { IfNone result (place + 38 + size_at bytes.now place ≤ length bytes.now) }
 {
     let line = first_line(which);
     let place = place as usize;
@@ -146,7 +147,6 @@ pub fn read_framed(bytes: &[u8], place: u32, which: Framed) -> Result<&[u8], Ref
 
     // The first line that fails.
     ensures refused { IfErr result (λ refusal. first_fault (framed_lines which place) bytes.now ≡ Some refusal) }
-    ensures of_table { IfErr result IsOfTable }
 {
     match refusal_of_framed(bytes, place, which) {
         Some(refusal) => Err(refusal),

@@ -2,7 +2,7 @@
 
 ghost use Rattle.std.specs.Prelude.{◌≡◌, ◌+◌, ◌*◌, ◌≤◌, length, IfSome, IfNone, IfOk, IfErr, OnOk, None};
 ghost use Rattle.dwg_base.specs.FirstItem.{HaveOther};
-ghost use Rattle.dwg_base.specs.Refusals.{first_fault, Reports, IsFaultOfTable};
+ghost use Rattle.dwg_base.specs.Refusals.{first_fault, Reports};
 ghost use Rattle.dwg_sections.specs.FileHeader.{BeginsWithHeader};
 ghost use Rattle.dwg_sections.specs.FirstLocator.{number_of, IsFirstPlace};
 ghost use Rattle.dwg_sections.specs.HeaderLines.{HEADER_LINES, bytes_at, rs_at, rl_at, locator_at, locators_at, locators_end, header_at, place_of};
@@ -159,7 +159,6 @@ pub fn read_file_header(alloc: Global, bytes: &[u8]) -> Result<FileHeader, Fault
 
     // The first line that fails, or out of memory.
     ensures refused { IfErr result (λ fault. Reports fault (first_fault HEADER_LINES bytes.now)) }
-    ensures of_table { IfErr result IsFaultOfTable }
 {
     if let Some(refusal) = refusal_of_header(bytes) {
         return Err(Fault::Refused(refusal));

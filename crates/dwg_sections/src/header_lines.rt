@@ -1,7 +1,7 @@
 //! The lines of the table of refusals on the file header.
 
-ghost use Rattle.std.specs.Prelude.{◌≡◌, ◌+◌, ◌≤◌, length, ◌==◌, MatchOption, bytes_eq, take};
-ghost use Rattle.dwg_base.specs.Refusals.{first_fault, IsOfTable};
+ghost use Rattle.std.specs.Prelude.{◌≡◌, ◌+◌, ◌≤◌, length, ◌==◌, IfNone, bytes_eq, take};
+ghost use Rattle.dwg_base.specs.Refusals.{first_fault};
 ghost use Rattle.dwg_check.specs.CheckWord.{header_check_word};
 ghost use Rattle.dwg_sections.specs.FileHeader.{HEADER_SENTINEL};
 ghost use Rattle.dwg_sections.specs.HeaderLines.{HEADER_LINES, begins_with_version, bytes_at, rs_at, count_at, locators_end};
@@ -11,21 +11,11 @@ use crate::header_places::{COUNT_PLACE, LOCATOR_SIZE, LOCATORS_PLACE};
 use crate::header_sentinel::SENTINEL_BYTES;
 use crate::locator_lines::refusal_of_locators;
 use crate::refusals::refusal;
+use dwg_base::refusal_lines::{
+    HEADER_CHECK, HEADER_COUNT, HEADER_CUT, HEADER_END, HEADER_SHORT, HEADER_VERSION,
+};
 use dwg_base::{Refusal, Version};
 use dwg_check::header_word;
-
-// The lines of the table, in the order in which they are tried.
-const SHORT_LINE: u8 = 1;
-
-const VERSION_LINE: u8 = 2;
-
-const COUNT_LINE: u8 = 3;
-
-const CUT_LINE: u8 = 4;
-
-const CHECK_LINE: u8 = 5;
-
-const SENTINEL_LINE: u8 = 6;
 
 /// The fewest locators of a header.
 const LEAST_COUNT: u32 = 3;
@@ -77,28 +67,28 @@ fn has_sentinel(bytes: &[u8], place: usize) -> bool
 #[tactic(auto, unfolding(crate::specs::HeaderLines::short_line, crate::specs::HeaderLines::version_line, crate::specs::HeaderLines::count_line, crate::specs::HeaderLines::cut_line, crate::specs::HeaderLines::check_line, crate::specs::HeaderLines::sentinel_line, crate::specs::HeaderLines::locators_end))]
 pub fn refusal_of_header(bytes: &[u8]) -> Option<Refusal>
     ensures first { result ≡ first_fault HEADER_LINES bytes.now }
-    ensures outcome { MatchOption result (18 + locators_end bytes.now ≤ length bytes.now) IsOfTable }
+    ensures whole { IfNone result (18 + locators_end bytes.now ≤ length bytes.now) }
 {
     let length = bytes.len();
     if length < LOCATORS_PLACE {
-        return Some(refusal(SHORT_LINE, 0, length));
+        return Some(refusal(HEADER_SHORT, 0, length));
     }
     if !has_version(bytes) {
-        return Some(refusal(VERSION_LINE, 0, 0));
+        return Some(refusal(HEADER_VERSION, 0, 0));
     }
     let count = count(bytes);
     if count < LEAST_COUNT || MOST_COUNT < count {
-        return Some(refusal(COUNT_LINE, 0, COUNT_PLACE));
+        return Some(refusal(HEADER_COUNT, 0, COUNT_PLACE));
     }
     let end = LOCATORS_PLACE + LOCATOR_SIZE * count as usize;
     if length < TAIL_SIZE + end {
-        return Some(refusal(CUT_LINE, 0, length));
+        return Some(refusal(HEADER_CUT, 0, length));
     }
     if !has_header_word(bytes, count, end) {
-        return Some(refusal(CHECK_LINE, 0, end));
+        return Some(refusal(HEADER_CHECK, 0, end));
     }
     if !has_sentinel(bytes, CHECK_SIZE + end) {
-        return Some(refusal(SENTINEL_LINE, 0, CHECK_SIZE + end));
+        return Some(refusal(HEADER_END, 0, CHECK_SIZE + end));
     }
     refusal_of_locators(bytes, count)
 }

@@ -2,18 +2,14 @@
 
 ghost use Rattle.std.specs.Prelude.{◌≡◌, ◌<◌, ◌≤◌, [], ◌∷◌, length, slice_index, find, IfSome};
 ghost use Rattle.std.specs.List.{range_with_len};
-ghost use Rattle.dwg_base.specs.Refusals.{first_fault, IsOfTable};
+ghost use Rattle.dwg_base.specs.Refusals.{first_fault};
 ghost use Rattle.dwg_sections.specs.HeaderLines.{count_at, locators_end, numbers_at, stands_earlier, is_missing, repeated_line, missing_line};
 
 use crate::header_places::{COUNT_PLACE, LOCATOR_SIZE, LOCATORS_PLACE};
 use crate::refusals::refusal;
 use crate::section_numbers::OBJECT_MAP_NUMBER;
 use dwg_base::Refusal;
-
-// The lines of the table, in the order in which they are tried.
-const REPEATED_LINE: u8 = 7;
-
-const MISSING_LINE: u8 = 8;
+use dwg_base::refusal_lines::{LOCATOR_MISSING, LOCATOR_REPEATED};
 
 /// The number of the locator at an index.
 #[tactic(auto, using(crate::proofs::LocatorStep::number_is_read), unfolding(crate::specs::HeaderLines::locators_end))]
@@ -92,14 +88,13 @@ pub fn refusal_of_locators(bytes: &[u8], count: u32) -> Option<Refusal>
     requires few { count ≤ 6 }
     requires whole { locators_end bytes.now ≤ length bytes.now }
     ensures first { result ≡ first_fault (repeated_line ∷ missing_line ∷ []) bytes.now }
-    ensures of_table { IfSome result IsOfTable }
 {
     if let Some(index) = first_repeated(bytes, count) {
         let place = LOCATORS_PLACE + LOCATOR_SIZE * index as usize;
-        return Some(refusal(REPEATED_LINE, index, place));
+        return Some(refusal(LOCATOR_REPEATED, index, place));
     }
     match first_missing(bytes, count) {
-        Some(number) => Some(refusal(MISSING_LINE, number, COUNT_PLACE)),
+        Some(number) => Some(refusal(LOCATOR_MISSING, number, COUNT_PLACE)),
         None => None,
     }
 }

@@ -9,8 +9,8 @@ use crate::block_content::{content_bits, content_fits, read_content, write_conte
 use crate::block_flags::{flags_bits, flags_fit, read_flags, write_flags};
 use crate::block_names::{block_names_bits, block_names_fit, read_block_names, write_block_names};
 use crate::entry::{Entry, entry_of};
+use crate::entry_start::{read_title, title_bits, title_fits, write_title};
 use crate::members::join_all;
-use crate::title::{read_title, title_bits, title_fits, write_title};
 use dwg_base::{ByteRun, Handle, Items, NoMemory};
 use dwg_bits::{BitCursor, BitSink};
 use dwg_codes::Point3;

@@ -7,7 +7,7 @@ ghost use Rattle.dwg_tables.specs.BlockHeaderBody.{block_refs, content_of, flags
 ghost use Rattle.dwg_tables.specs.TableReading.{content_read, flags_read, names_read};
 
 use crate::block_header::{BlockContent, BlockFlags, BlockHeader, BlockNames, InsertMark};
-use crate::ends::{CodeEnds, ends_fit_when};
+use crate::first_and_last::{CodeEnds, ends_fit_when};
 use crate::members::{names_fit, parts_bits, read_names, write_parts};
 use dwg_base::{Handle, NoMemory, Version};
 use dwg_bits::{BitCursor, BitSink};

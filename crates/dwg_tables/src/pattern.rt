@@ -9,9 +9,9 @@ ghost use Rattle.dwg_tables.specs.LtypeBody.{ltype_main, pattern_of, stroke, str
 ghost use Rattle.dwg_tables.specs.TableReading.{pattern_read};
 
 use crate::dash::{CodeStroke, known_strokes};
+use crate::entry_start::{read_title, title_bits, title_fits, write_title};
 use crate::ltype::{Dash, Ltype, Pattern, Stroke};
 use crate::members::{parts_bits, write_parts};
-use crate::title::{read_title, title_bits, title_fits, write_title};
 use dwg_base::{Items, NoMemory};
 use dwg_bits::{BitCursor, BitSink};
 use dwg_codes::{BitCode, CodeBD, CodeRC, bytes_length, read_list, write_bytes};

@@ -5,7 +5,7 @@
 #[macro_export]
 macro_rules! table_field {
     (parse Title, $field:ident, $alloc:expr, $version:expr, $main:expr) => {
-        let Some($field) = crate::title::read_title($alloc, $main)? else {
+        let Some($field) = crate::entry_start::read_title($alloc, $main)? else {
             return Ok(None);
         };
     };
@@ -15,12 +15,12 @@ macro_rules! table_field {
         };
     };
     (parse Values, $field:ident, $alloc:expr, $version:expr, $main:expr) => {
-        let Some($field) = crate::values::read_values($version, $main) else {
+        let Some($field) = crate::layer_values::read_values($version, $main) else {
             return Ok(None);
         };
     };
     (fits Title, $of:expr, $field:ident, $version:expr) => {
-        if !crate::title::title_fits(&$of.$field) {
+        if !crate::entry_start::title_fits(&$of.$field) {
             return false;
         }
     };
@@ -28,27 +28,27 @@ macro_rules! table_field {
         crate::letter_form::known_form($of);
     };
     (fits Values, $of:expr, $field:ident, $version:expr) => {
-        if !crate::values::values_fit($version, $of.$field) {
+        if !crate::layer_values::values_fit($version, $of.$field) {
             return false;
         }
     };
     (bits Title, $of:expr, $field:ident, $version:expr) => {
-        crate::title::title_bits(&$of.$field)
+        crate::entry_start::title_bits(&$of.$field)
     };
     (bits Form, $of:expr, $field:ident, $version:expr) => {
         crate::letter_form::form_bits($of)
     };
     (bits Values, $of:expr, $field:ident, $version:expr) => {
-        crate::values::values_bits($version, $of.$field)
+        crate::layer_values::values_bits($version, $of.$field)
     };
     (write Title, $of:expr, $field:ident, $version:expr, $sink:expr) => {
-        crate::title::write_title(&$of.$field, $sink);
+        crate::entry_start::write_title(&$of.$field, $sink);
     };
     (write Form, $of:expr, $field:ident, $version:expr, $sink:expr) => {
         crate::letter_form::write_form($of, $sink);
     };
     (write Values, $of:expr, $field:ident, $version:expr, $sink:expr) => {
-        crate::values::write_values($version, $of.$field, $sink);
+        crate::layer_values::write_values($version, $of.$field, $sink);
     };
     ($($done:tt)*) => {
         field!($($done)*)

@@ -178,7 +178,7 @@ fn header_fields(alloc: Global, sizes: &Sizes) -> Option<Vec<u8>> {
 }
 
 /// A file whose header has three locators, with the check word of the header made right.
-pub fn with_header_word(alloc: Global, file: &[u8]) -> Option<Vec<u8>> {
+fn with_header_word(alloc: Global, file: &[u8]) -> Option<Vec<u8>> {
     let fields = file.get(..HEADER_FIELDS)?;
     let after = file.get(HEADER_FIELDS + 2..)?;
     let word = check(0, fields) ^ HEADER_CHANGE;

@@ -8,7 +8,7 @@ use std::alloc::Global;
 pub(crate) const START: u16 = 0xC0C1;
 
 /// A body after its length and before its check word. None: out of memory, and for a body of 2^15 bytes or more.
-pub fn framed(alloc: Global, body: &[u8]) -> Option<Vec<u8>> {
+fn framed(alloc: Global, body: &[u8]) -> Option<Vec<u8>> {
     let length = u16::try_from(body.len()).ok()?;
     if length >= 0x8000 {
         return None;

@@ -9,5 +9,5 @@ mod frame;
 
 pub use bits::{Bits, bytes_of};
 pub use cases::{Case, first_failing};
-pub use file::{file_of, older, with_header_word};
-pub use frame::{frame_of, framed};
+pub use file::{file_of, older};
+pub use frame::frame_of;

@@ -1,7 +1,7 @@
 -- The notes that the program writes on standard error. A rule of this project.
 use Rattle.std.specs.Prelude.{ℕ, List, ◌++◌, codes, decimal}
 use Rattle.dwg_base.specs.Refusals.{part_word_of, reason_word_of}
-use Rattle.dwg_base.specs.declared.refusal.Refusal.{Refusal}
+use Rattle.dwg_base.specs.Refusal.{Refusal}
 use Rattle.dwg_text.specs.Lines.{line}
 
 -- which words the program takes

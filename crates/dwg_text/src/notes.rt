@@ -1,7 +1,6 @@
 //! The notes that the program writes on standard error, one line each.
 
 ghost use Rattle.std.specs.Prelude.{◌≡◌, IfOk, string_bytes};
-ghost use Rattle.dwg_base.specs.Refusals.{IsOfTable};
 ghost use Rattle.dwg_text.specs.Notes as texts;
 
 use dwg_base::{ByteRun, NoMemory, Refusal, part_word, reason_word};
@@ -50,7 +49,6 @@ pub fn too_long_note() -> &'static [u8]
 /// The words of a refusal: which part of the input is faulty, where, and why. Err: out of memory.
 #[tactic(auto, unfolding(crate::specs::Notes::refusal_words))]
 pub fn refusal_words(alloc: Global, refusal: Refusal) -> Result<String, AllocError>
-    requires { IsOfTable refusal }
     ensures { IfOk result (λ words. string_bytes words ≡ texts.refusal_words refusal) }
 {
     let index = refusal.index;
@@ -64,7 +62,6 @@ pub fn refusal_words(alloc: Global, refusal: Refusal) -> Result<String, AllocErr
 /// The line that notes a refusal. Err: out of memory.
 #[tactic(auto, unfolding(crate::specs::Notes::refusal_note))]
 pub fn refusal_line(alloc: Global, refusal: Refusal) -> Result<String, AllocError>
-    requires { IsOfTable refusal }
     ensures { IfOk result (λ note. string_bytes note ≡ texts.refusal_note refusal) }
 {
     let words = refusal_words(alloc, refusal)?;
@@ -76,7 +73,6 @@ pub fn refusal_line(alloc: Global, refusal: Refusal) -> Result<String, AllocErro
 
 /// Which part of the input is faulty, where, and why. Err: out of memory.
 pub fn refusal_note(alloc: Global, refusal: Refusal) -> Result<ByteRun, NoMemory>
-    requires { IsOfTable refusal }
     ensures { IfOk result (λ note. note ≡ texts.refusal_note refusal) }
 {
     match refusal_line(alloc, refusal) {

@@ -1,9 +1,8 @@
-//! Hostile use over devices in memory: inputs cut at each length, devices that fail at each call, counts that lie, and each byte of an
-//! object damaged.
+//! Hostile use over devices in memory: inputs cut at each length, and devices that fail at each call.
 
 use crate::tests::commands::OverDevices;
 use crate::tests::inputs::input_of;
-use crate::tests::runs::{Answers, PLENTY, answers_text, every_line, in_pieces, ran};
+use crate::tests::runs::{PLENTY, every_line, in_pieces, ran};
 use dwg_commands::Status;
 use std::alloc::Global;
 use std::test::Fail;
@@ -109,43 +108,6 @@ impl Numbered for FailingWrite {
     }
 }
 
-/// Whether a file of one object, with a byte changed to its complement, is refused for the check word of its object, and just the
-/// object is lost, so that another file is left.
-fn is_damage_reported(alloc: Global, file: &str, place: usize, left: &str) -> Option<bool> {
-    let input = format!(in alloc; "{} ~{}", file, place).ok()?;
-    let refused = "Refused 30 0 183 | - | dwg: refused: objects 0 at 183: check";
-    let lost = format!(in alloc;
-        "Found | file {} | dwg: refused: objects 0 at 183: check; lost: object C at 183; kept 0",
-        left
-    )
-    .ok()?;
-    let rewritten = answers_text(alloc, "dwg rewrite", input.as_str(), refused)?;
-    let recovered = answers_text(alloc, "dwg recover", input.as_str(), lost.as_str())?;
-    Some(rewritten && recovered)
-}
-
-/// With a byte changed, that drawing has lost its object.
-struct Damaged;
-
-impl Numbered for Damaged {
-    const WHAT: &'static str = "a damaged byte";
-
-    fn holds(alloc: Global, number: usize) -> Option<bool> {
-        is_damage_reported(alloc, "one_object", number, "smallest")
-    }
-}
-
-/// The same of AC1014.
-struct OlderDamaged;
-
-impl Numbered for OlderDamaged {
-    const WHAT: &'static str = "of AC1014, a damaged byte";
-
-    fn holds(alloc: Global, number: usize) -> Option<bool> {
-        is_damage_reported(alloc, "older_object", number, "older_smallest")
-    }
-}
-
 #[test]
 fn every_cut_is_reported(rt: HostRuntime) -> Result<(), Fail> {
     every_number::<Cut>(rt.alloc(), 0, 210)?;
@@ -185,37 +147,4 @@ dwg audit | 1 0 1 0 | made/1/7 | Done | audit yes | -
 dwg rewrite | 1000 2 1000000 0 | made/1/7 | ReadFault | - | dwg: read fault
 dwg rewrite | 1000000 0 10 3 | made/1/7 | WriteFault | file made/1/7 #20 | -",
     )
-}
-
-#[test]
-fn hostile_numbers_are_reported(rt: HostRuntime) -> Result<(), Fail> {
-    every_line::<Answers>(
-        rt.alloc(),
-        "\
-dwg rewrite | smallest 86=FFFFFFFF | Refused 11 0 86 | - | dwg: refused: variables 0 at 86: length
-dwg rewrite | smallest 183=FFFF | Refused 21 0 183 | - | dwg: refused: map 0 at 183: short
-dwg rewrite | smallest 183=0000 | Refused 22 0 183 | - | dwg: refused: map 0 at 183: size
-dwg rewrite | smallest 44=FFFFFFFF sealed | Refused 21 0 4294967295 | - | dwg: refused: map 0 at 4294967295: short
-dwg rewrite | one_object 183=FFFFFFFFFFFFFFFF | Refused 28 0 183 | - | dwg: refused: objects 0 at 183: length
-dwg show | hostile_items | Done | drawing AC1015 codepage 0 lead 00000000000000 mark 0000; variables -; classes 0; objects 1; object C DICTIONARY plain 42;   owner 4.0;   xdict 3.0;   bits 44;   rest 3fffffffe000 | -
-dwg show | hostile_reactors | Done | drawing AC1015 codepage 0 lead 00000000000000 mark 0000; variables -; classes 0; objects 1; object C DICTIONARY raw 42;   bytes 4a9a800000004323fffffffe80100c00 | -",
-    )
-}
-
-#[test]
-fn two_neighbouring_bytes_cost_one_object(rt: HostRuntime) -> Result<(), Fail> {
-    every_line::<Answers>(
-        rt.alloc(),
-        "\
-dwg show | one_page ~205 ~206 | Refused 30 1 199 | - | dwg: refused: objects 1 at 199: check
-dwg audit | one_page ~213 ~214 | Refused 30 1 199 | - | dwg: refused: objects 1 at 199: check
-dwg recover | one_page ~205 ~206 | Found | file two_of_page | dwg: refused: objects 1 at 199: check; lost: object B at 199; kept 2
-dwg recover | one_page ~213 ~214 | Found | file two_of_page | dwg: refused: objects 1 at 199: check; lost: object B at 199; kept 2",
-    )
-}
-
-#[test]
-fn every_damaged_byte_is_reported(rt: HostRuntime) -> Result<(), Fail> {
-    every_number::<Damaged>(rt.alloc(), 185, 199)?;
-    every_number::<OlderDamaged>(rt.alloc(), 185, 198)
 }

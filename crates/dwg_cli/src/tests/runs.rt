@@ -135,11 +135,12 @@ pub(crate) fn written(alloc: Global, line: &str, bytes: &[u8], room: usize) -> O
 fn refusal_of(text: &str) -> Option<Status> {
     let (line, rest) = text.split_once(" ")?;
     let (index, place) = rest.split_once(" ")?;
-    Some(Status::Refused(Refusal {
-        line: line.parse().ok()?,
-        index: index.parse().ok()?,
-        place: place.parse().ok()?,
-    }))
+    let line: u8 = line.parse().ok()?;
+    if !(1..=37).contains(&line) {
+        return None;
+    }
+    let place = place.parse().ok()?;
+    Some(Status::Refused(Refusal::new(line, index.parse().ok()?, place)))
 }
 
 /// The status that takes no number.
@@ -169,7 +170,7 @@ pub(crate) fn status_of(text: &str) -> Option<Status> {
 }
 
 /// The lines that `; ` stands between, each with its end; `-` is none.
-pub(crate) fn lines_of(alloc: Global, text: &str) -> Option<Vec<u8>> {
+fn lines_of(alloc: Global, text: &str) -> Option<Vec<u8>> {
     let mut bytes = Vec::new(alloc);
     if text == "-" {
         return Some(bytes);
@@ -270,30 +271,10 @@ fn is_answered(alloc: Global, line: &str) -> Option<bool> {
     answers_text(alloc, command, input, wanted)
 }
 
-/// The first paragraph of a table that doesn't report the truth; an empty line stands between two.
-fn first_failing_paragraph<C: Case>(alloc: Global, table: &str) -> Option<&str> {
-    for paragraph in table.split("\n\n") {
-        if !C::holds(alloc, paragraph) {
-            return Some(paragraph);
-        }
-    }
-    None
-}
-
-/// Fails by the first case of some that doesn't report the truth.
-fn passes_unless(failing: Option<&str>) -> Result<(), Fail> {
-    match failing {
+/// Fails by the first line of a table that doesn't report the truth.
+pub(crate) fn every_line<C: Case>(alloc: Global, table: &str) -> Result<(), Fail> {
+    match first_failing::<C>(alloc, table) {
         None => Ok(()),
         Some(case) => Err(Fail::new(case)),
     }
-}
-
-/// Fails by the first line of a table that doesn't report the truth.
-pub(crate) fn every_line<C: Case>(alloc: Global, table: &str) -> Result<(), Fail> {
-    passes_unless(first_failing::<C>(alloc, table))
-}
-
-/// Fails by the first paragraph of a table that doesn't report the truth.
-pub(crate) fn every_paragraph<C: Case>(alloc: Global, table: &str) -> Result<(), Fail> {
-    passes_unless(first_failing_paragraph::<C>(alloc, table))
 }

@@ -1,5 +1,6 @@
 //! Texts and notes.
 
+use dwg_base::refusal_lines::MAP_DUPLICATE;
 use dwg_base::{ByteRun, Items, MemSink, NoMemory, Refusal, Version};
 use dwg_classes::Class;
 use dwg_sections::{FileHeader, Locator};
@@ -50,12 +51,7 @@ fn header(alloc: Global, version: Version) -> FileHeader {
 
 /// The note on a refusal.
 fn note(alloc: Global) -> Result<ByteRun, NoMemory> {
-    let refusal = Refusal {
-        line: 26,
-        index: 3,
-        place: 204,
-    };
-    refusal_note(alloc, refusal)
+    refusal_note(alloc, Refusal::new(MAP_DUPLICATE, 3, 204))
 }
 
 /// A sink with room for each text.

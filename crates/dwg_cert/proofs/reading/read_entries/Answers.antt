@@ -13,9 +13,10 @@ entries-init c = record {
   left = ap (λ n. find (entry_fails c.args.bytes.now) (range_with_len 0 n)) (omega arith);
 }
 
-pub returns-in_default-clause-answers : goal.returns-in_default-clause-answers
-returns-in_default-clause-answers c =
-    entry_refused c.args.bytes.now c.entries.index c.args.count c.requires.counted c.entries-test.true c.in_default.ensures.fails c.entries.invariant.left
+pub returns-in_default : goal.returns-in_default
+returns-in_default c = record {
+  answers = rw c.new.ensures (entry_refused c.args.bytes.now c.entries.index c.args.count c.requires.counted c.entries-test.true c.in_default.ensures.fails c.entries.invariant.left);
+}
 
 pub entries-preserved : goal.entries-preserved
 entries-preserved c = record {
@@ -24,7 +25,9 @@ entries-preserved c = record {
   left = search_goes_on c.args.bytes.now c.entries.index c.args.count c.entries-test.true c.in-Some.ensures.passes.0 c.entries.invariant.left;
 }
 
-pub returns-clause-answers : goal.returns-clause-answers
-returns-clause-answers c =
-    entries_read c.args.bytes.now c.entries.entries.items c.from_vec.result c.entries.index c.args.count c.requires.counted (omega arith) c.entries.invariant.read c.entries.invariant.left
-    c.from_vec.ensures
+pub returns : goal.returns
+returns c = record {
+  answers =
+      entries_read c.args.bytes.now c.entries.entries.items c.from_vec.result c.entries.index c.args.count c.requires.counted (omega arith) c.entries.invariant.read c.entries.invariant.left
+      c.from_vec.ensures;
+}

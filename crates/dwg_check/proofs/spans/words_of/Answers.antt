@@ -4,7 +4,7 @@ use Rattle.dwg_check.proofs.spans.words_of.Goals as goal
 
 pub bytes-init : goal.bytes-init
 bytes-init c =
-    (c.in-Ok.ensures.items ∙ ap (λ words. words ++ 0 ∷ []) c.new-words.ensures.items ∙ first_word c.args.bytes.now, no_byte_yet c.args.bytes.now)
+    (c.in_ok-push.ensures.items ∙ ap (λ words. words ++ 0 ∷ []) c.new-words.ensures.items ∙ first_word c.args.bytes.now, no_byte_yet c.args.bytes.now)
 
 pub returns : goal.returns
 returns c =

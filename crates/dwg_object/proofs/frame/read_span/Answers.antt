@@ -14,7 +14,7 @@ pub returns-in_default-clause-tried : goal.returns-in_default-clause-tried
 returns-in_default-clause-tried c =
     let framed = framed_at c.args.bytes.now _ c.args.span.now (are_bytes c.args.bytes.now (λ i. omega (arith, c.type_inv.bytes i))) c.requires refl (sym c.has_frame_word.ensures ∙ c.if-not-has_frame_word.false) in
     reported_frame c.args.version c.args.bytes.now _ _ _ (λ i. omega (arith, c.type_inv.bytes i))
-    (head_refused _ _ c.args.span.now c.piece-body.result.now _ framed c.piece-body.ensures c.in_default.ensures.none c.frame_refusal-in_default.ensures)
+    (head_refused _ _ c.args.span.now c.piece-body.result.now _ framed c.piece-body.ensures c.in_default.ensures.none c.new-in_default.ensures)
 
 pub returns-clause-found : goal.returns-clause-found
 returns-clause-found c =
@@ -29,4 +29,4 @@ returns-clause-tried c =
 pub returns-then-not-has_frame_word-clause-tried : goal.returns-then-not-has_frame_word-clause-tried
 returns-then-not-has_frame_word-clause-tried c =
     reported_frame c.args.version c.args.bytes.now _ _ _ (λ i. omega (arith, c.type_inv.bytes i))
-    (check_refused c.args.bytes.now _ _ c.args.span.now _ c.requires refl (sym c.has_frame_word.ensures ∙ c.if-not-has_frame_word.true) c.frame_refusal.ensures)
+    (check_refused c.args.bytes.now _ _ c.args.span.now _ c.requires refl (sym c.has_frame_word.ensures ∙ c.if-not-has_frame_word.true) c.new.ensures)

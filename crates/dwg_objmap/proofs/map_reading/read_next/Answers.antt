@@ -4,12 +4,12 @@ use Rattle.dwg_objmap.proofs.map_reading.read_next.Goals as goal
 
 pub returns-in_default-clause-step : goal.returns-in_default-clause-step
 returns-in_default-clause-step c = λ fuel.
-    step_none fuel c.args.index c.args.place c.args.gathered c.args.last.now c.args.rest.now c.refusal.result c.requires c.in_default.ensures.none c.refusal.ensures
+    step_none fuel c.args.index c.args.place c.args.gathered c.args.last.now c.args.rest.now c.new.result c.requires c.in_default.ensures.none c.new.ensures
 
 pub returns-then-value-eq0-clause-step : goal.returns-then-value-eq0-clause-step
 returns-then-value-eq0-clause-step c = λ fuel.
-    step_null fuel c.args.index c.args.place c.args.gathered c.args.last.now c.in-Some.pair c.args.rest.now _ c.refusal-then-value-eq0.result c.requires c.in-Some.ensures.found
-    (omega arith) c.refusal-then-value-eq0.ensures
+    step_null fuel c.args.index c.args.place c.args.gathered c.args.last.now c.in-Some.pair c.args.rest.now _ c.new-then-value-eq0.result c.requires c.in-Some.ensures.found
+    (omega arith) c.new-then-value-eq0.ensures
 
 pub returns-clause-step : goal.returns-clause-step
 returns-clause-step c = λ fuel.
@@ -20,5 +20,5 @@ returns-clause-step c = λ fuel.
 pub returns-in_default-2-clause-step : goal.returns-in_default-2-clause-step
 returns-in_default-2-clause-step c = λ fuel.
     let ensures = rw c.in_default-2.is at c.in_ok-gathered.ensures in
-    step_again fuel c.args.index c.args.place c.args.gathered c.args.last.now c.in-Some.pair c.args.rest.now _ c.refusal-in_default-2.result c.requires c.in-Some.ensures.found
-    (omega arith) ensures.new c.refusal-in_default-2.ensures
+    step_again fuel c.args.index c.args.place c.args.gathered c.args.last.now c.in-Some.pair c.args.rest.now _ c.new-in_default-2.result c.requires c.in-Some.ensures.found
+    (omega arith) ensures.new c.new-in_default-2.ensures

@@ -17,9 +17,3 @@ recover_whole-requires-clause-drawing g c =
 pub returns-in-Ok-clause-recovered : goal.returns-in-Ok-clause-recovered
 returns-in-Ok-clause-recovered g c =
     subst (λ (all : RecoveredValue). IfOk c.recover_whole.result (λ value. recovered_value value ≡ all)) (recovered_of_whole c.args.bytes.now c.in-Ok.ensures.holds) c.recover_whole.ensures.recovered
-
-pub returns-in-Err-Refused-clause-recovered : goal.returns-in-Err-Refused-clause-recovered
-returns-in-Err-Refused-clause-recovered g c =
-    let clauses = rw c.in-Err-Refused.field-0-is at c.in-Err-Refused.ensures in
-    subst (λ (all : RecoveredValue). IfOk c.recover_damaged.result (λ value. recovered_value value ≡ all)) (recovered_of_damaged c.args.bytes.now c.in-Err-Refused.refusal clauses.refused)
-    c.recover_damaged.ensures.recovered

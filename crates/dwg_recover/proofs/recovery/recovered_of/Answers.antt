@@ -20,7 +20,9 @@ parts_recovered-requires-clause-objects c =
 pub reported-requires : goal.reported-requires
 reported-requires c = kept_placed c.args.bytes.now c.into_frames-frames.result.items (c.into_frames-frames.ensures ∙ c.requires.frames)
 
-pub returns-clause-recovered : goal.returns-clause-recovered
-returns-clause-recovered c =
-    damaged_value c.args.bytes.now (contents_of c.drawing_of.result) c.args.refusal c.args.gathered.losses c.in_ok-kept.kept c.requires.refusal c.drawing_of.ensures c.requires.losses
-    (c.in_ok-kept.ensures ∙ ap (reported c.args.bytes.now) (c.into_frames-frames.ensures ∙ c.requires.frames))
+pub returns : goal.returns
+returns c = record {
+  recovered =
+      damaged_value c.args.bytes.now (contents_of c.drawing_of.result) c.args.refusal c.args.gathered.losses c.in_ok-kept.kept c.requires.refusal c.drawing_of.ensures c.requires.losses
+      (c.in_ok-kept.ensures ∙ ap (reported c.args.bytes.now) (c.into_frames-frames.ensures ∙ c.requires.frames));
+}

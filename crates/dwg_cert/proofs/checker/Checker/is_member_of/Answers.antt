@@ -9,7 +9,7 @@ use Rattle.dwg_object.specs.Objects.{value_of}
 use Rattle.dwg_cert.proofs.checker.Checker.is_member_of.Goals as goal
 
 pub returns : goal.returns
-returns c =
-    tested_seen _ _ _ (is_member c.self.inside.known (value_of c.args.block.now)) c.args.handle _ _ (sym c.self.view_is) c.place_of.ensures c.is_member_there.ensures
-    ∙ ap (λ (known : Option SpaceHandles). option_map_or (is_member known (value_of c.args.block.now)) (object_at c.args.self.now.objects c.args.handle) false)
+returns c handle at =
+    tested_seen _ _ _ (is_member c.self.inside.known (value_of c.args.block.now)) handle _ _ (sym c.self.view_is) at c.is_member_there.ensures
+    ∙ ap (λ (known : Option SpaceHandles). option_map_or (is_member known (value_of c.args.block.now)) (object_at c.args.self.now.objects handle) false)
     (c.self.invariant.knows ∙ ap (λ (shown : Checked). spaces shown.objects) c.self.view_is)

@@ -1,4 +1,0 @@
-use Rattle.dwg_audit.proofs.whole.audit_drawing.Given as goal
-
-abbrev pub ghosts-audit_counted : goal.ghosts-audit_counted
-ghosts-audit_counted a = record { name = a.blank.name; parts = a.blank.parts }

@@ -1,0 +1,7 @@
+-- A refusal as contracts see it: the number of its line in the table of refusals, its index and its place. A rule of this project.
+use Rattle.std.specs.Prelude.{ℕ}
+
+pub record Refusal : Type 0 where
+  pub line : ℕ
+  pub index : ℕ
+  pub place : ℕ
