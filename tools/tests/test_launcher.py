@@ -40,12 +40,12 @@ lib,dwg_object)
     sleep "${SLEEP:-0}"
     echo "rt: dwg_bits proved"
     ;;
-all\ check\ --jobs\ [1-9]*,dwg_cli)
+all\\ check\\ --jobs\\ [1-9]*,dwg_cli)
     printf '== dwg_base\n== dwg_bits\n== dwg_text\ncrate dwg_text: modules\nlogic=proved functions=2\n'
     sleep "${SLEEP:-0}"
     [ -z "${BROKEN:-}" ] || { echo "error: not proved"; exit 1; }
     ;;
-run\ --\ sections,dwg_cli)
+run\\ --\\ sections,dwg_cli)
     [ "$(head -c 6)" = AC1015 ] || exit 9
     mkdir -p out
     printf '#!/bin/sh\n' >out/dwg_cli
@@ -53,7 +53,7 @@ run\ --\ sections,dwg_cli)
     sleep "${LATE:-0}"
     printf 'echo "$*"; cat; exit 3\n' >>out/dwg_cli
     ;;
-try\ --seconds\ [1-9]*\ --*,dwg_cli)
+try\\ --seconds\\ [1-9]*\\ --*,dwg_cli)
     shift 4
     echo try >>"$RUNS.tries"
     [ -f /dev/stdin ] || { echo "run=none proved=no" >&2; exit 2; }
