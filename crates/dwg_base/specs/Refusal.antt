@@ -5,3 +5,7 @@ pub record Refusal : Type 0 where
   pub line : ℕ
   pub index : ℕ
   pub place : ℕ
+
+-- the last line of the table: its lines are numbered from 1
+abbrev pub LAST_LINE : ℕ
+LAST_LINE = 37

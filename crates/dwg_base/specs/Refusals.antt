@@ -54,7 +54,7 @@ part_word_of line =
     else (if nat_le line 33 then codes "sections"
     else codes "certificate")))))
 
--- the reasons of the lines 1 to 37, in the order of the table
+-- the reasons of the lines of the table, in the order of the table
 abbrev pub REASONS : List (List ℕ)
 REASONS =
     -- 1 to 8: the file header

@@ -2,6 +2,7 @@
 
 ghost use Rattle.std.specs.Prelude.{◌≡◌, ◌≤◌};
 ghost use Rattle.dwg_base.specs.declared.refusal.Fault.TheVariants.{NoMemory, Refused};
+ghost use Rattle.dwg_base.specs.Refusal.{LAST_LINE};
 ghost use Rattle.dwg_base.specs.Refusals.{part_word_of, reason_word_of};
 
 use crate::device::NoMemory;
@@ -12,7 +13,7 @@ use std::marker::Model;
 /// The first line of the table of refusals that fails.
 #[derive(Clone, Copy, Debug, PartialEq, Eq)]
 pub struct Refusal {
-    /// The line of the table, 1 to 37: the first 33 are tried of a drawing, the last four of a certificate.
+    /// The line of the table, from 1 on: the first 33 are tried of a drawing, the last four of a certificate.
     pub line: u8,
     /// Which locator, class, page or pair of that part, or which entry of a certificate, counted from 0.
     pub index: u64,
@@ -22,13 +23,13 @@ pub struct Refusal {
 
 impl Model for Refusal {
     ghost use Rattle.std.specs.Prelude.{◌≤◌};
-    ghost use Rattle.dwg_base.specs.Refusal.{Refusal};
+    ghost use Rattle.dwg_base.specs.Refusal.{LAST_LINE, Refusal};
 
     ghost Value = { Refusal };
 
     ghost view = { λ refusal. record { line = refusal.line; index = refusal.index; place = refusal.place } };
 
-    ghost invariant = { λ refusal. (1 ≤ refusal.line) × (refusal.line ≤ 37) };
+    ghost invariant = { λ refusal. (1 ≤ refusal.line) × (refusal.line ≤ LAST_LINE) };
 
     ghost inverse = { λ refusal. record { line = refusal.line; index = refusal.index; place = refusal.place } };
 }
@@ -37,7 +38,7 @@ impl Refusal {
     /// The refusal by a line of the table.
     pub fn new(line: u8, index: u64, place: u64) -> Refusal
         requires least { 1 ≤ line }
-        requires most { line ≤ 37 }
+        requires most { line ≤ LAST_LINE }
         ensures { result ≡ record { line = line; index = index; place = place } }
     {
         Refusal { line, index, place }
@@ -81,7 +82,7 @@ impl<T: Drop> From<AllocFailed<T>> for Fault {
 /// The part of the input that a line of the table speaks of.
 pub fn part_word(line: u8) -> &'static str
     requires least { 1 ≤ line }
-    requires most { line ≤ 37 }
+    requires most { line ≤ LAST_LINE }
     ensures { result.now ≡ part_word_of line }
 {
     words_of(line).0
@@ -90,7 +91,7 @@ pub fn part_word(line: u8) -> &'static str
 /// Why a line of the table refuses.
 pub fn reason_word(line: u8) -> &'static str
     requires least { 1 ≤ line }
-    requires most { line ≤ 37 }
+    requires most { line ≤ LAST_LINE }
     ensures { result.now ≡ reason_word_of line }
 {
     words_of(line).1

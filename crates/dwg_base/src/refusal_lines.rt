@@ -1,6 +1,7 @@
 //! The lines of the table of refusals, in the order in which they are tried: the number of each, and in one row its part and its reason.
 
 ghost use Rattle.std.specs.Prelude.{◌≡◌, ◌≤◌};
+ghost use Rattle.dwg_base.specs.Refusal.{LAST_LINE};
 ghost use Rattle.dwg_base.specs.Refusals.{part_word_of, reason_word_of};
 
 /// Fewer bytes than a file header has up to its count of locators.
@@ -57,7 +58,7 @@ pub const CLASSES_CHECK: u8 = 17;
 /// Another end sentinel after the classes.
 pub const CLASSES_END: u8 = 18;
 
-/// The bits of a class are none.
+/// The bits that are left spell no class.
 pub const CLASS_SPELLING: u8 = 19;
 
 /// A class has a number below the least.
@@ -66,13 +67,13 @@ pub const CLASS_NUMBER: u8 = 20;
 /// A page of the object map passes the end of the input.
 pub const MAP_SHORT: u8 = 21;
 
-/// A page's size is below that of the size itself.
+/// A page's size is 0 or 1, below that of the size itself.
 pub const MAP_SIZE: u8 = 22;
 
 /// A page's check word is wrong.
 pub const MAP_CHECK: u8 = 23;
 
-/// The bytes of a page spell no pair.
+/// The bytes of a page spell no pair, or a running value leaves its range.
 pub const MAP_PAIR: u8 = 24;
 
 /// A pair has the null handle.
@@ -81,7 +82,7 @@ pub const MAP_NULL: u8 = 25;
 /// An earlier pair has the handle.
 pub const MAP_DUPLICATE: u8 = 26;
 
-/// A pair's place is after the end of the input.
+/// A pair's place is at the end of the input or after it.
 pub const FRAME_PLACE: u8 = 27;
 
 /// A frame's length isn't spelled, or it passes the end of the input.
@@ -118,7 +119,7 @@ pub const CERTIFICATE_ENTRY: u8 = 37;
 #[tactic(auto, unfolding(crate::specs::Refusals::part_word_of, crate::specs::Refusals::reason_word_of))]
 pub(crate) fn words_of(line: u8) -> (&'static str, &'static str)
     requires least { 1 ≤ line }
-    requires most { line ≤ 37 }
+    requires most { line ≤ LAST_LINE }
     ensures part { result.0.now ≡ part_word_of line }
     ensures reason { result.1.now ≡ reason_word_of line }
 {

@@ -2,6 +2,7 @@
 
 ghost use Rattle.std.specs.Prelude.{◌≡◌, ◌+◌, ◌*◌, ◌/◌, ◌^◌, ◌<◌, ◌≤◌, length, Some, IfOk, IfErr};
 ghost use Rattle.std.specs.Option.{option_map};
+ghost use Rattle.dwg_base.specs.Refusal.{LAST_LINE};
 ghost use Rattle.dwg_base.specs.Refusals.{Answers, IfRefused};
 ghost use Rattle.dwg_bits.specs.Cursor.{rest};
 ghost use Rattle.dwg_grammar.specs.Grammar.{Reads};
@@ -66,7 +67,7 @@ fn read_class(alloc: Global, cursor: &mut BitCursor<'_>) -> Result<Option<Class>
 /// A refusal by a line of the table, of the class after so many others, which begins at a bit of the content.
 fn refused(line: u8, index: u64, place: u64, first: u64) -> Fault
     requires least { 1 ≤ line }
-    requires most { line ≤ 37 }
+    requires most { line ≤ LAST_LINE }
     requires place { place < 2 ^ 62 }
     ensures { result ≡ Fault.Refused (record { line = line; index = index; place = place + first / 8 }) }
 {

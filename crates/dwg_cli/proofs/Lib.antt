@@ -1,2 +1,1 @@
 pub mod Stopping
-mod Heeding

@@ -1,5 +1,5 @@
 -- What the commands that read answer, said of the header that the input begins with, the classes that it has, the drawing that it spells, and the certificate before one. A rule of this project.
-use Rattle.std.specs.Prelude.{◌≡◌, ◌↔◌, ℕ, ◌≤◌, ◌<◌, List, [], ◌∷◌, ◌++◌, length, codes, Some}
+use Rattle.std.specs.Prelude.{◌≡◌, ◌↔◌, ℕ, ◌≤◌, ◌<◌, List, [], ◌∷◌, ◌++◌, length, codes, Some, IsTrue}
 use Rattle.dwg_messages.specs.AppText.{appdata_text}
 use Rattle.dwg_appitems.specs.AppFailures.{IsAppFinding}
 use Rattle.dwg_appitems.specs.AppFindings.{app_findings}
@@ -44,7 +44,10 @@ use Rattle.dwg_text.specs.Notes.{preview_dropped_note, refusal_note, too_large_n
 use Rattle.dwg_text.specs.Sections.{sections_text}
 use Rattle.dwg_commands.specs.declared.outcome.Outcome.{Outcome}
 use Rattle.dwg_commands.specs.declared.status.Status.TheVariants.{Done, Found, Refused, TooLarge}
+use Rattle.dwg_commands.specs.declared.words.Command.{Command}
+use Rattle.dwg_commands.specs.Commands.{reads, row_of}
 use Rattle.dwg_commands.specs.Outcome.{outcome}
+use Rattle.dwg_commands.specs.Words.{command_of}
 
 -- an input within the limit
 pub record IsInput (bytes : List ℕ) : Type 0 where
@@ -54,6 +57,10 @@ pub record IsInput (bytes : List ℕ) : Type 0 where
 -- an input that spells no drawing
 abbrev pub SpellsNone : List ℕ → Type 0
 SpellsNone bytes = (drawing : Contents) → Spelled drawing bytes → ⊥
+
+-- each command that reads is named by its own word
+abbrev pub ReadersAreNamed : Type 0
+ReadersAreNamed = (command : Command) → IsTrue (reads command) → command_of ((row_of command).word ∷ []) ≡ Some command
 
 -- what the program answers to one word
 abbrev pub said : List ℕ → List ℕ → Outcome

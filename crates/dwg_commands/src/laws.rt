@@ -1,6 +1,6 @@
 //! Laws of what is answered, as the contract of a function without code of its own.
 
-ghost use Rattle.dwg_commands.specs.OutcomeLaws.{AcceptReportsAccepted, AppdataReportsItems, AuditReportsSound, CarryNotesNone, CarryWritesPreview, CertifiedIsAccepted, ClassesPrintsClasses, NoCertificateIsRefused, NoClassesAreRefused, NoDrawingAfterIsRefused, NoDrawingIsRefused, NoHeaderIsRefused, NoItemsAreReported, NoneIsCarried, NoneIsCertified, RecoverRewritesDrawing, RecoverWritesFrames, RewriteReportsSize, RewriteWritesDrawing, SectionsPrintsHeader, ShortDamageIsReported, ShowPrintsDrawing, SoundIsCertified, UnsoundIsNoted};
+ghost use Rattle.dwg_commands.specs.OutcomeLaws.{AcceptReportsAccepted, AppdataReportsItems, AuditReportsSound, CarryNotesNone, CarryWritesPreview, CertifiedIsAccepted, ClassesPrintsClasses, NoCertificateIsRefused, NoClassesAreRefused, NoDrawingAfterIsRefused, NoDrawingIsRefused, NoHeaderIsRefused, NoItemsAreReported, NoneIsCarried, NoneIsCertified, ReadersAreNamed, RecoverRewritesDrawing, RecoverWritesFrames, RewriteReportsSize, RewriteWritesDrawing, SectionsPrintsHeader, ShortDamageIsReported, ShowPrintsDrawing, SoundIsCertified, UnsoundIsNoted};
 
 use dwg_appitems::app_finding_laws;
 use dwg_audit::{auditable_laws, finding_laws};
@@ -13,14 +13,14 @@ use dwg_preview::preview_laws;
 use dwg_recover::{answer_laws, short_damage_laws};
 use dwg_sections::{file_header_laws, framed_laws};
 
-/// What the commands that read answer to an input of at most 32 MiB. `sections` prints the file header that it begins with, and
-/// `classes` the classes that it has; each refuses an input without them by the first of its lines that fails. Where an input spells a
-/// drawing, `show` prints the text of that drawing; `rewrite` writes the canonical file, where that has at most 32 MiB, and it spells
-/// the drawing and no other and is rewritten as it is, and else reports its size; `audit` prints the findings, which are the line
-/// `audit yes` alone exactly where the references of the drawing hold together, and ends with Done exactly there, and else with Found;
-/// and `recover` answers as `rewrite` does. Where it spells none, `show`, `rewrite` and `audit` refuse it by the first line that fails,
-/// and print nothing; and `recover` notes that line, ends with Found, and writes the canonical file of what is recovered, a valid
-/// drawing whose objects are those of frames that stand in the input, where that file has at most 32 MiB.
+/// Each command that reads is named by its own word. What they answer to an input of at most 32 MiB: `sections` prints the file header that
+/// it begins with, and `classes` the classes that it has; each refuses an input without them by the first of its lines that fails. Where an
+/// input spells a drawing, `show` prints the text of that drawing; `rewrite` writes the canonical file, where that has at most 32 MiB, and
+/// it spells the drawing and no other and is rewritten as it is, and else reports its size; `audit` prints the findings, which are the line
+/// `audit yes` alone exactly where the references of the drawing hold together, and ends with Done exactly there, and else with Found; and
+/// `recover` answers as `rewrite` does. Where it spells none, `show`, `rewrite` and `audit` refuse it by the first line that fails, and
+/// print nothing; and `recover` notes that line, ends with Found, and writes the canonical file of what is recovered, a valid drawing whose
+/// objects are those of frames that stand in the input, where that file has at most 32 MiB.
 ///
 /// Where an input differs from the canonical file of a valid drawing in one byte, or in two neighbouring ones, in the body and the
 /// check word of one object's frame, `show`, `rewrite` and `audit` refuse it for the check word of that object and print nothing;
@@ -42,6 +42,7 @@ use dwg_sections::{file_header_laws, framed_laws};
 /// prints `accept yes`, and else ends with Found and prints `accept no`; with Done the references of the drawing hold together. What
 /// `certify` writes is accepted before what it was written of, where both together have at most 32 MiB.
 pub fn outcome_laws()
+    ensures named { ReadersAreNamed }
     ensures sections { SectionsPrintsHeader }
     ensures no_header { NoHeaderIsRefused }
     ensures classes { ClassesPrintsClasses }

@@ -3,8 +3,8 @@ use Rattle.std.proofs.Common.{◌≡◌, sym, ap₂, ◌∙◌, subst, ℕ, ◌<
 use Rattle.dwg_audit.specs.Findings.{findings}
 use Rattle.dwg_base.specs.Devices.{MOST_BYTES}
 use Rattle.dwg_base.specs.Refusals.{first_fault}
-use Rattle.dwg_check.specs.CheckWord.{check_word}
-use Rattle.dwg_drill.specs.Drilled.{DRILL_SEED, WHOLE_FILE_START, changed, drilled, middle_of}
+use Rattle.dwg_check.specs.CheckWord.{CHECK_SEED, check_word}
+use Rattle.dwg_drill.specs.Drilled.{DRILL_SEED, changed, drilled, middle_of}
 use Rattle.dwg_file.specs.Canonical.{canonical, size_of}
 use Rattle.dwg_file.specs.CanonicalLaws.{CanonicalIsCounted, CanonicalIsRead}
 use Rattle.dwg_file.specs.Contents.{Contents}
@@ -35,7 +35,7 @@ reported_of entities drawing file = record {
   entities = entities;
   objects = length drawing.objects;
   size = length file;
-  check = check_word WHOLE_FILE_START file;
+  check = check_word CHECK_SEED file;
   middle = middle_of file;
   fault = first_fault ALL_LINES (changed file);
   findings = length (findings drawing.objects);

@@ -3,7 +3,7 @@ use Rattle.std.specs.Prelude.{ℕ, ◌/◌, ◌-◌, List, length}
 use Rattle.std.specs.List.{slice_set, slice_index_or}
 use Rattle.dwg_audit.specs.Findings.{findings}
 use Rattle.dwg_base.specs.Refusals.{first_fault}
-use Rattle.dwg_check.specs.CheckWord.{check_word}
+use Rattle.dwg_check.specs.CheckWord.{CHECK_SEED, check_word}
 use Rattle.dwg_file.specs.Canonical.{canonical}
 use Rattle.dwg_file.specs.Contents.{Contents}
 use Rattle.dwg_file.specs.FileLines.{ALL_LINES}
@@ -13,10 +13,6 @@ use Rattle.dwg_drill.specs.declared.report.DrillReport.{DrillReport}
 -- the seed of a drill's drawing
 abbrev pub DRILL_SEED : ℕ
 DRILL_SEED = 1
-
--- what the check word of a whole file begins with
-abbrev pub WHOLE_FILE_START : ℕ
-WHOLE_FILE_START = 0xC0C1
 
 -- the place of the byte that is changed
 abbrev pub middle_of : List ℕ → ℕ
@@ -32,7 +28,7 @@ drilled_of entities drawing = record {
   entities = entities;
   objects = length drawing.objects;
   size = length (canonical drawing);
-  check = check_word WHOLE_FILE_START (canonical drawing);
+  check = check_word CHECK_SEED (canonical drawing);
   middle = middle_of (canonical drawing);
   fault = first_fault ALL_LINES (changed (canonical drawing));
   findings = length (findings drawing.objects);

@@ -5,8 +5,8 @@ ghost use Rattle.dwg_audit.specs.Findings.{findings};
 ghost use Rattle.dwg_base.specs.Devices.{MOST_BYTES};
 ghost use Rattle.dwg_base.specs.Refusals.{Reports, first_fault};
 ghost use Rattle.dwg_base.specs.Refusal.{Refusal};
-ghost use Rattle.dwg_check.specs.CheckWord.{check_word};
-ghost use Rattle.dwg_drill.specs.Drilled.{DRILL_SEED, WHOLE_FILE_START, changed, drilled, middle_of};
+ghost use Rattle.dwg_check.specs.CheckWord.{CHECK_SEED, check_word};
+ghost use Rattle.dwg_drill.specs.Drilled.{DRILL_SEED, changed, drilled, middle_of};
 ghost use Rattle.dwg_file.specs.Canonical.{size_of};
 ghost use Rattle.dwg_file.specs.DrawingAt.{drawing_at};
 ghost use Rattle.dwg_file.specs.FileLines.{ALL_LINES};
@@ -17,13 +17,10 @@ use crate::made::make_file;
 use crate::report::DrillReport;
 use dwg_audit::audit_drawing;
 use dwg_base::{ByteRun, Fault, NoMemory, Refusal};
-use dwg_check::check;
+use dwg_check::{CHECK_SEED, check};
 use dwg_file::{canonical_laws, drawing_laws, read_drawing};
 use dwg_make::make_laws;
 use std::alloc::Global;
-
-/// What the check word of a whole file begins with.
-const FILE_START: u16 = 0xC0C1;
 
 /// What is counted of a drawing that is read.
 #[derive(Clone, Copy)]
@@ -101,7 +98,7 @@ fn drill_file(alloc: Global, entities: u32, file: ByteRun) -> Result<DrillReport
       entities = entities;
       objects = length (drawing_at file).objects;
       size = length file;
-      check = check_word WHOLE_FILE_START file;
+      check = check_word CHECK_SEED file;
       middle = middle_of file;
       fault = first_fault ALL_LINES (changed file);
       findings = length (findings (drawing_at file).objects);
@@ -110,7 +107,7 @@ fn drill_file(alloc: Global, entities: u32, file: ByteRun) -> Result<DrillReport
     let mut file = owned(alloc, file)?;
     let size = file.len() as u64;
     let counts = count(alloc, file.as_slice())?;
-    let word = check(FILE_START, file.as_slice());
+    let word = check(CHECK_SEED, file.as_slice());
     change(&mut file);
     let fault = fault_of(alloc, file.as_slice())?;
     Ok(DrillReport {

@@ -1,6 +1,7 @@
 //! Reading frames, pair by pair in map order.
 
 ghost use Rattle.std.specs.Prelude.{◌≡◌, ℕ, ◌-◌, ◌<◌, ◌≤◌, ◌||◌, List, [], ◌∷◌, ◌++◌, map, false, ◌↔◌, IsTrue, IfOk, IfErr};
+ghost use Rattle.dwg_base.specs.Refusal.{LAST_LINE};
 ghost use Rattle.dwg_object.specs.FrameLines.{frame_refusal};
 ghost use Rattle.std.specs.List.{All};
 ghost use Rattle.dwg_object.specs.Objects.{IsBorrowedObject, handle_of, value_of};
@@ -20,7 +21,7 @@ use std::alloc::Global;
 /// The refusal of a pair's frame by a line, at the pair's place.
 fn refused(line: u8, index: u64, place: u64) -> Fault
     requires least { 1 ≤ line }
-    requires most { line ≤ 37 }
+    requires most { line ≤ LAST_LINE }
     ensures { result ≡ Fault.Refused (frame_refusal line index place) }
 {
     Fault::Refused(Refusal::new(line, index, place))

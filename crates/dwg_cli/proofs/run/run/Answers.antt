@@ -1,5 +1,5 @@
 use Rattle.std.proofs.Common.{inl, rules}
-use Rattle.dwg_cli.proofs.Heeding.{read_is_heeded}
+use Rattle.dwg_commands.proofs.CommandsRead.{read_is_heeded}
 use Rattle.dwg_cli.proofs.Stopping.{stopped_is_cut}
 use Rattle.dwg_cli.proofs.run.run.Goals as goal
 

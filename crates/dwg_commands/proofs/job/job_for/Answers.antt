@@ -1,7 +1,7 @@
 use Rattle.std.proofs.Common.{[], arith, sym, subst}
 use Rattle.std.proofs.KnownBytes.{Consumes-nil}
 use Rattle.dwg_commands.specs.Words.{IsUsage}
-use Rattle.dwg_commands.proofs.CommandsRead.{names_heeded}
+use Rattle.dwg_commands.proofs.CommandsRead.{names_reading, read_is_heeded}
 use Rattle.dwg_commands.proofs.Outcomes.{outcome_of_no_command, answered_by, came_by}
 use Rattle.dwg_commands.proofs.Unread.{unread_answered, unread_settled, unread_usage, unread_usage_reported}
 use Rattle.dwg_commands.proofs.job.job_for.Goals as goal
@@ -19,7 +19,7 @@ pub returns-then-reads-clause-came : goal.returns-then-reads-clause-came
 returns-then-reads-clause-came g c = came_by _ _ c.job_from.result _ _ (sym c.in-Some.ensures.named) (sym c.if-reads.ensures) c.job_from.ensures.came
 
 pub returns-then-reads-clause-usage_reported : goal.returns-then-reads-clause-usage_reported
-returns-then-reads-clause-usage_reported g c = λ usage. absurd (names_heeded _ _ (sym c.in-Some.ensures.named) (sym c.if-reads.ensures) usage)
+returns-then-reads-clause-usage_reported g c = λ usage. absurd (read_is_heeded _ (names_reading _ _ (sym c.in-Some.ensures.named) (sym c.if-reads.ensures)) usage)
 
 pub returns-else-reads-clause-answered : goal.returns-else-reads-clause-answered
 returns-else-reads-clause-answered g c = λ bytes fed. unread_answered _ _ _ bytes (sym c.in-Some.ensures.named) (sym c.if-reads.ensures)

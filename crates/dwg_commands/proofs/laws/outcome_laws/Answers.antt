@@ -2,6 +2,7 @@ use Rattle.dwg_commands.proofs.CarryLaws.{CarryingLaws, carry_notes_none, carry_
 use Rattle.dwg_commands.proofs.CertificateLaws.{FormLaws, none_is_certified, sound_is_certified, unsound_is_noted, no_certificate_is_refused, no_drawing_after_is_refused, accept_reports_accepted, certified_is_accepted}
 use Rattle.dwg_commands.proofs.CertificateOutcomes.{AcceptanceLaws}
 use Rattle.dwg_commands.proofs.ItemLaws.{no_items_are_reported, appdata_reports_items}
+use Rattle.dwg_commands.proofs.CommandsRead.{readers_are_named}
 use Rattle.dwg_commands.proofs.OutcomeLaws.{DrawingLaws, FileLaws, no_drawing_is_refused, show_prints_drawing, rewrite_writes_drawing, rewrite_reports_size, audit_reports_sound, recover_rewrites_drawing, recover_writes_frames}
 use Rattle.dwg_commands.proofs.SectionLemmas.{PartLaws, sections_prints_header, no_header_is_refused, classes_prints_classes, no_classes_are_refused}
 use Rattle.dwg_commands.proofs.ShortDamage.{short_damage_is_reported}
@@ -38,6 +39,7 @@ returns c =
     let acceptance : AcceptanceLaws = record { sound = c.acceptance_laws.ensures.sound; accepted = c.acceptance_laws.ensures.accepted; reported = c.acceptance_laws.ensures.reported } in
     let auditable = c.auditable_laws.ensures.auditable in
     record {
+      named = readers_are_named;
       sections = sections_prints_header parts;
       no_header = no_header_is_refused parts;
       classes = classes_prints_classes parts;
