@@ -276,7 +276,8 @@ class Input:
             content = bytes.fromhex(value)
             self.change_parts(preview=base.PREVIEW + len(content).to_bytes(4, "little") + content + bytes(255 - byte for byte in base.PREVIEW))
         elif name.startswith("section/"):
-            self.change_parts(sections=[*(self.file or file_of(self.data)).sections, (int(name[8:]), writer.bytes_of(value))])
+            content = named(value).data if "*" in value else writer.bytes_of(value)
+            self.change_parts(sections=[*(self.file or file_of(self.data)).sections, (int(name[8:]), content)])
         else:
             self.data, self.file = self.changed(name, bool(is_value), value), None
 

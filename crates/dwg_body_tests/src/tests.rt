@@ -9,4 +9,3 @@ mod more;
 mod shapes;
 mod table;
 mod tables;
-mod versions;

@@ -1,4 +1,4 @@
-//! The tests, by what they are of; and how their cases are read and reported.
+//! The tests, by what they are of.
 
 mod base;
 mod bits;
@@ -6,14 +6,14 @@ mod check;
 mod classes;
 mod codes;
 mod handles;
+mod harness;
 mod items;
 mod laws;
-mod lines;
+mod listed;
 mod lists;
 mod modular;
 mod pieces;
 mod previews;
-mod reported;
 mod sections;
 mod sinks;
 mod text;

@@ -1,7 +1,5 @@
-//! The tests, by what they are of; and how their cases are read and reported.
+//! The tests, by what they are of.
 
-mod apps;
-mod common;
 mod file;
 mod forms;
 mod inputs;
@@ -11,4 +9,3 @@ mod objmap;
 mod reported;
 mod sizes;
 mod slots;
-mod table;

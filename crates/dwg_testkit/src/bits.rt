@@ -12,8 +12,11 @@ fn digit_of(letter: u8) -> Option<u8> {
     }
 }
 
-/// The number that hexadecimal digits spell, modulo 2^64.
+/// The number that up to sixteen hexadecimal digits spell.
 pub(crate) fn number_of(word: &str) -> Option<u64> {
+    if word.is_empty() || word.len() > 16 {
+        return None;
+    }
     let mut number = 0u64;
     for letter in word.as_bytes() {
         number = number.wrapping_mul(16) | u64::from(digit_of(*letter)?);
@@ -21,13 +24,17 @@ pub(crate) fn number_of(word: &str) -> Option<u64> {
     Some(number)
 }
 
-/// The bytes that hexadecimal digits spell, with blanks and line ends anywhere between the bytes. None for any other text, and for
-/// out of memory.
+/// The bytes of a text of bits, the last filled up with zeros. None for any other text, and out of memory.
 pub fn bytes_of(alloc: Global, text: &str) -> Option<Vec<u8>> {
-    let mut bits = Bits::new(alloc);
-    bits.push_text(text)?;
-    bits.to_bytes(alloc)
+    Bits::of(alloc, text)?.to_bytes(alloc)
 }
+
+/// The common main bits of an entity without application data, graphic, reactors and links: mode 2, colour 256, linetype scale 1.0,
+/// both flags 0, invisible 0, line weight 29.
+const ENTITY: &str = "'10 '0 '10 '10 '1 '11 '01 '00 '00 '10 1D";
+
+/// The same after the bit size of AC1014, with the linetype by layer.
+const OLDER: &str = "'10 '10 '1 '1 '11 '01 '10";
 
 /// A run of bits, the most significant bit of a byte first.
 #[derive(Drop)]
@@ -84,7 +91,40 @@ impl Bits {
         self.push(handle, 8 * count)
     }
 
-    /// Adds one word: `'0110` are bits, `5.10` is a reference of code 5 to handle 10, any other is hexadecimal digits of four bits each.
+    /// Adds hexadecimal digits, of four bits each.
+    fn push_digits(&mut self, digits: &str) -> Option<()> {
+        for letter in digits.as_bytes() {
+            self.push(u64::from(digit_of(*letter)?), 4)?;
+        }
+        Some(())
+    }
+
+    /// Adds eight bytes that begin and end with these digits, and else are zeros.
+    fn push_eight(&mut self, first: &str, last: &str) -> Option<()> {
+        self.push_digits(first)?;
+        for _ in first.len().saturating_add(last.len())..16usize {
+            self.push(0, 4)?;
+        }
+        self.push_digits(last)
+    }
+
+    /// Adds digits so many times.
+    fn push_often(&mut self, digits: &str, times: &str) -> Option<()> {
+        for _ in 0..times.parse::<u16>().ok()? {
+            self.push_digits(digits)?;
+        }
+        Some(())
+    }
+
+    /// Adds all bytes from one up to another.
+    fn push_range(&mut self, first: &str, last: &str) -> Option<()> {
+        for byte in number_of(first)?..=number_of(last)? {
+            self.push(byte, 8)?;
+        }
+        Some(())
+    }
+
+    /// Adds one word.
     fn push_word(&mut self, word: &str) -> Option<()> {
         if let Some(bits) = word.strip_prefix("'") {
             for bit in bits.as_bytes() {
@@ -92,23 +132,48 @@ impl Bits {
             }
             return Some(());
         }
+        if let Some((first, last)) = word.split_once("..") {
+            return self.push_range(first, last);
+        }
         if let Some((code, handle)) = word.split_once(".") {
             return self.push_handle(number_of(code)?, number_of(handle)?);
         }
-        for letter in word.as_bytes() {
-            self.push(u64::from(digit_of(*letter)?), 4)?;
+        if let Some((first, last)) = word.split_once("^") {
+            return self.push_eight(first, last);
         }
-        Some(())
+        match word.split_once("*") {
+            Some((digits, times)) => self.push_often(digits, times),
+            None => self.push_digits(word),
+        }
     }
 
-    /// Adds the words of a text, which stand apart by blanks or line ends; the word `-` is no bits.
-    pub fn push_text(&mut self, text: &str) -> Option<()> {
+    /// Adds the words of a text, which are told in `lib.rt`, but for those that are names.
+    fn push_words(&mut self, text: &str) -> Option<()> {
         for word in text.split_whitespace() {
             if word != "-" {
                 self.push_word(word)?;
             }
         }
         Some(())
+    }
+
+    /// Adds the words of a text, among them `ENTITY` and `OLDER` for the common main bits of an entity.
+    pub fn push_text(&mut self, text: &str) -> Option<()> {
+        for word in text.split_whitespace() {
+            match word {
+                "ENTITY" => self.push_words(ENTITY)?,
+                "OLDER" => self.push_words(OLDER)?,
+                _ => self.push_words(word)?,
+            }
+        }
+        Some(())
+    }
+
+    /// The bits of a text.
+    pub fn of(alloc: Global, text: &str) -> Option<Bits> {
+        let mut bits = Bits::new(alloc);
+        bits.push_text(text)?;
+        Some(bits)
     }
 
     /// The bits as bytes, the last filled up with zeros.

@@ -219,7 +219,7 @@ fn push_sections(
     push_between(alloc, file, PREVIEW, &[1, 0, 0, 0, 0])
 }
 
-/// The frames that a text names, a line each, the first of them at a place.
+/// The frames of a text, the first of them at a place.
 fn frames_of(alloc: Global, start: u32, text: &str) -> Option<Frames> {
     let mut frames = Frames {
         bytes: Vec::new(alloc),
@@ -227,13 +227,15 @@ fn frames_of(alloc: Global, start: u32, text: &str) -> Option<Frames> {
         handle: 0,
         place: 0,
     };
-    for line in text.lines() {
-        frames.push(alloc, start, line)?;
+    for frame in text.split(" ; ") {
+        if !frame.is_empty() && frame != "-" {
+            frames.push(alloc, start, frame)?;
+        }
     }
     Some(frames)
 }
 
-/// The file of a content of the header variables, one of the classes, and frames, a line each in ascending order of handle
+/// The file of a content of the header variables, one of the classes, and frames with ` ; ` between them, in ascending order of handle
 /// (`frame_of`), with one page of the map: where all are spelled canonically, the canonical file. None for another text, for out of
 /// memory, and for more than a page of pairs.
 pub fn file_of(alloc: Global, variables: &[u8], classes: &[u8], frames: &str) -> Option<Vec<u8>> {

@@ -57,9 +57,7 @@ fn own_bits(alloc: Global, text: &str, main: &str) -> Option<(Bits, Bits)> {
     if let Some((prefix, after)) = main.split_once(SIZE) {
         before.push_all(&own)?;
         before.push_text(prefix)?;
-        let mut rest = Bits::new(alloc);
-        rest.push_text(after)?;
-        return Some((before, rest));
+        return Some((before, Bits::of(alloc, after)?));
     }
     own.push_text(main)?;
     Some((before, own))

@@ -1,52 +1,32 @@
-//! Fields of bodies, printed: each after a blank, in the order in which the type names them, and `-` for one that isn't there. Numbers
-//! and words of floating-point numbers stand in hexadecimal digits (1.0 is 3FF0000000000000), texts between apostrophes, bytes after
-//! a colon, references as `CODE.TARGET`, and lists between brackets.
+//! Fields of bodies, reported: each in the order in which the type names them, and `-` for one that isn't there. Texts stand between
+//! apostrophes, and lists between brackets.
 
 use dwg_base::ByteRun;
 use dwg_codes::{Point2, Point3};
 use dwg_handles::Ref;
+use dwg_testkit::Report;
 
-/// What has fields that can be printed.
+/// What has fields that can be reported.
 pub(crate) trait Fields {
-    /// Adds the fields, in the order in which the type names them.
-    fn put(&self, text: &mut String) -> Option<()>;
+    /// Reports the fields, in the order in which the type names them.
+    fn put(&self, report: &mut Report);
 }
 
-/// Adds a field that isn't there.
-pub(crate) fn put_none(text: &mut String) -> Option<()> {
-    text.push_str(" -").ok()
-}
-
-/// Adds one number, in hexadecimal digits.
-pub(crate) fn put_number(text: &mut String, number: u64) -> Option<()> {
-    write!(text, " {number:X}").ok()
-}
-
-/// Adds numbers.
-pub(crate) fn put(text: &mut String, numbers: &[u64]) -> Option<()> {
-    for number in numbers {
-        put_number(text, *number)?;
-    }
-    Some(())
-}
-
-/// Adds numbers that may not be there.
-pub(crate) fn put_some(text: &mut String, numbers: &[Option<u64>]) -> Option<()> {
+/// Reports numbers that may not be there.
+pub(crate) fn put_some(report: &mut Report, numbers: &[Option<u64>]) {
     for number in numbers {
         match *number {
-            Some(number) => put_number(text, number)?,
-            None => put_none(text)?,
+            Some(number) => report.hex(number),
+            None => report.word("-"),
         }
     }
-    Some(())
 }
 
-/// Adds what is yes, as 1, or no, as 0.
-pub(crate) fn put_flags(text: &mut String, flags: &[bool]) -> Option<()> {
+/// Reports what is yes, as 1, or no, as 0.
+pub(crate) fn put_flags(report: &mut Report, flags: &[bool]) {
     for flag in flags {
-        put_number(text, u64::from(*flag))?;
+        report.hex(u64::from(*flag));
     }
-    Some(())
 }
 
 /// A number of 16 bits that may not be there.
@@ -57,54 +37,36 @@ pub(crate) fn wide(number: Option<u16>) -> Option<u64> {
     }
 }
 
-/// Adds a point of the plane.
-pub(crate) fn put_plane(text: &mut String, point: &Point2) -> Option<()> {
-    put(text, &[point.x, point.y])
+/// Reports a point of the plane.
+pub(crate) fn put_plane(report: &mut Report, point: &Point2) {
+    report.hexes(&[point.x, point.y]);
 }
 
-/// Adds a point of space.
-pub(crate) fn put_space(text: &mut String, point: &Point3) -> Option<()> {
-    put(text, &[point.x, point.y, point.z])
+/// Reports a point of space.
+pub(crate) fn put_space(report: &mut Report, point: &Point3) {
+    report.hexes(&[point.x, point.y, point.z]);
 }
 
-/// Adds a text, between apostrophes.
-pub(crate) fn put_text(text: &mut String, run: &ByteRun) -> Option<()> {
-    let reported = std::str::from_utf8(run.as_slice()).ok()?;
-    write!(text, " '{reported}'").ok()
+/// Reports a text.
+pub(crate) fn put_text(report: &mut Report, run: &ByteRun) {
+    report.quoted(run.as_slice());
 }
 
-/// Adds bytes, two hexadecimal digits each, after a colon.
-pub(crate) fn put_bytes(text: &mut String, run: &ByteRun) -> Option<()> {
-    text.push_str(" :").ok()?;
-    for byte in run.as_slice() {
-        let byte = *byte;
-        write!(text, "{byte:02X}").ok()?;
-    }
-    Some(())
+/// Reports bytes.
+pub(crate) fn put_bytes(report: &mut Report, run: &ByteRun) {
+    report.bytes(run.as_slice());
 }
 
-/// Adds a reference, as `CODE.TARGET`.
-pub(crate) fn put_ref(text: &mut String, reference: &Ref) -> Option<()> {
-    let code = reference.code;
-    let target = reference.target.value();
-    write!(text, " {code:X}.{target:X}").ok()
+/// Reports a reference.
+pub(crate) fn put_ref(report: &mut Report, reference: &Ref) {
+    report.reference(reference.code, reference.target.value());
 }
 
-/// Begins a list.
-pub(crate) fn open(text: &mut String) -> Option<()> {
-    text.push_str(" [").ok()
-}
-
-/// Ends a list.
-pub(crate) fn close(text: &mut String) -> Option<()> {
-    text.push_str(" ]").ok()
-}
-
-/// Adds a list of references.
-pub(crate) fn put_refs(text: &mut String, references: &[Ref]) -> Option<()> {
-    open(text)?;
+/// Reports a list of references.
+pub(crate) fn put_refs(report: &mut Report, references: &[Ref]) {
+    report.word("[");
     for reference in references {
-        put_ref(text, reference)?;
+        put_ref(report, reference);
     }
-    close(text)
+    report.word("]");
 }

@@ -1,196 +1,172 @@
 //! Lines, points, circles, arcs and lightweight polylines.
 
-use crate::tests::fields::{Fields, close, open, put, put_none, put_plane, put_some, put_space};
-use crate::tests::table::{Body, hold};
+use crate::tests::fields::{Fields, put_plane, put_some, put_space};
+use crate::tests::table::BothVersions;
 use dwg_base::Items;
 use dwg_codes::{Point2, Point3};
 use dwg_shapes::{Arc, Circle, Line, LwPolyline, Point, Width};
+use dwg_testkit::{Report, hold};
+use std::test::Fail;
 
 impl Fields for Line {
-    fn put(&self, text: &mut String) -> Option<()> {
-        put_space(text, &self.start)?;
-        put_space(text, &self.end)?;
-        put(text, &[self.thickness])?;
-        put_space(text, &self.extrusion)
+    fn put(&self, report: &mut Report) {
+        put_space(report, &self.start);
+        put_space(report, &self.end);
+        report.hexes(&[self.thickness]);
+        put_space(report, &self.extrusion);
     }
 }
 
 impl Fields for Point {
-    fn put(&self, text: &mut String) -> Option<()> {
-        put_space(text, &self.place)?;
-        put(text, &[self.thickness])?;
-        put_space(text, &self.extrusion)?;
-        put(text, &[self.angle])
+    fn put(&self, report: &mut Report) {
+        put_space(report, &self.place);
+        report.hexes(&[self.thickness]);
+        put_space(report, &self.extrusion);
+        report.hexes(&[self.angle]);
     }
 }
 
-/// Lines: start, end, thickness, extrusion. From (1.0, 2.0, 0) to (1.0, 3.0, 0), and the same by the longest codes; from (1.0, 0, 3.0)
-/// to (2.0, 0, 1.0) of thickness 2.0; cut short; every number another one. Points: place, thickness, extrusion, angle; the second is cut
-/// short.
+/// Lines: start, end, thickness, extrusion. From (1.0, 2.0, 0) to (1.0, 3.0, 0), and the same by the longest codes; from (1.0, 0, 3.0) to
+/// (2.0, 0, 1.0) of thickness 2.0; cut short; every number another one. Points: place, thickness, extrusion, angle; the second is cut
+/// short. In both versions, of lines: from (0, 0, 0) to (1.0, 0, 0) of the usual extrusion, which are the 20 bits A9AA9 in AC1014; every
+/// number another one; cut short by a bit. Points: every number another one; of thickness 0 and the usual extrusion; cut short in the
+/// angle.
 #[test]
-fn lines_and_points_are_reported_and_written(rt: HostRuntime) {
-    let alloc = rt.alloc();
-    hold::<Body<Line>>(
-        &rt,
-        alloc,
-        "\
-        '1 000000000000F03F '00 0000000000000040 '11 0000000000000840 '1 '1 / - \
-            | = | 3FF0000000000000 4000000000000000 0 3FF0000000000000 4008000000000000 0 0 0 0 3FF0000000000000\n\
-        '0 000000000000F03F '11 000000000000F03F 0000000000000040 '11 0000000000000840 0000000000000000 '00 '0 '00 \
-            0000000000000000 '0 '10 '10 '01 / - \
-            | '1 000000000000F03F '00 0000000000000040 '11 0000000000000840 '1 '1 / - \
-            | 3FF0000000000000 4000000000000000 0 3FF0000000000000 4008000000000000 0 0 0 0 3FF0000000000000\n\
-        '0 000000000000F03F '11 0000000000000040 0000000000000000 '00 0000000000000840 '11 000000000000F03F '0 '00 \
-            0000000000000040 '0 '01 '10 '10 / - \
-            | = | 3FF0000000000000 0 4008000000000000 4000000000000000 0 3FF0000000000000 4000000000000000 \
-              3FF0000000000000 0 0\n\
-        '1 000000000000F03F '00 0000000000000040 '11 00000000000008 '010 / - | none\n\
-        '0 0100000000000000 '11 0200000000000000 0300000000000000 '11 0400000000000000 0500000000000000 '11 \
-            0600000000000000 '0 '00 0700000000000000 '0 '00 0800000000000000 '00 0900000000000000 '00 \
-            0A00000000000000 / - \
-            | '0 0100000000000000 '01 02000000 0300000000000000 '01 04000000 0500000000000000 '01 06000000 '0 '00 \
-              0700000000000000 '0 '00 0800000000000000 '00 0900000000000000 '00 0A00000000000000 / - \
-            | 1 3 5 2 4 6 7 8 9 A\n",
-    );
-    hold::<Body<Point>>(
-        &rt,
-        alloc,
-        "\
-        '01 '10 '00 0000000000000040 '1 '1 '00 0000000000000840 / - \
-            | = | 3FF0000000000000 0 4000000000000000 0 0 0 3FF0000000000000 4008000000000000\n\
-        '01 '10 '00 0000000000000040 '1 '1 '00 00000000000008 '010000 / - | none\n\
-        '00 0100000000000000 '00 0200000000000000 '00 0300000000000000 '0 '00 0400000000000000 '0 '00 \
-            0500000000000000 '00 0600000000000000 '00 0700000000000000 '00 0800000000000000 / - \
-            | = | 1 2 3 4 5 6 7 8\n",
-    );
+fn lines_and_points_are_reported_and_written(rt: HostRuntime) -> Result<(), Fail> {
+    let lines = "
+        '1 ^F03F '00 ^40 '11 ^0840 '1 '1 / - | = | x3FF^ x4^ 0 x3FF^ x4008^ 0 0 0 0 x3FF^
+        '0 ^F03F '11 ^F03F ^40 '11 ^0840 ^ '00 '0 '00 ^ '0 '10 '10 '01 / - | '1 ^F03F '00 ^40 '11 ^0840 '1 '1 / - \
+            | x3FF^ x4^ 0 x3FF^ x4008^ 0 0 0 0 x3FF^
+        '0 ^F03F '11 ^40 ^ '00 ^0840 '11 ^F03F '0 '00 ^40 '0 '01 '10 '10 / - | = | x3FF^ 0 x4008^ x4^ 0 x3FF^ x4^ x3FF^ 0 0
+        '1 ^F03F '00 ^40 '11 00000000000008 '010 / - | none
+        '0 01^ '11 02^ 03^ '11 04^ 05^ '11 06^ '0 '00 07^ '0 '00 08^ '00 09^ '00 0A^ / - \
+            | '0 01^ '01 02000000 03^ '01 04000000 05^ '01 06000000 '0 '00 07^ '0 '00 08^ '00 09^ '00 0A^ / - | 1 3 5 2 4 6 7 8 9 xA
+        '1 ^ '11 ^F03F ^ '00 '1 '1 / - | = | A9AA9 / - | 0 0 0 x3FF^ 0 0 0 0 0 x3FF^
+        '0 01^ '01 02000000 03^ '01 04000000 05^ '01 06000000 '0 '00 07^ '0 '00 08^ '00 09^ '00 0A^ / - | = \
+            | '00 01^ '00 03^ '00 05^ '00 02^ '00 04^ '00 06^ '00 07^ '00 08^ '00 09^ '00 0A^ / - | 1 3 5 2 4 6 7 8 9 xA
+        older A9AA '100 / - | none";
+    let points = "
+        '01 '10 '00 ^40 '1 '1 '00 ^0840 / - | = | '01 '10 '00 ^40 '10 '10 '10 '01 '00 ^0840 / - | x3FF^ 0 x4^ 0 0 0 x3FF^ x4008^
+        '01 '10 '00 ^40 '1 '1 '00 00000000000008 '010000 / - | none
+        '00 01^ '00 02^ '00 03^ '0 '00 04^ '0 '00 05^ '00 06^ '00 07^ '00 08^ / - | = \
+            | '00 01^ '00 02^ '00 03^ '00 04^ '00 05^ '00 06^ '00 07^ '00 08^ / - | 1 2 3 4 5 6 7 8
+        older '01 '10 '00 ^40 '10 '10 '10 '01 '00 00000000000008 / - | none";
+    hold::<BothVersions<Line>>(rt.alloc(), lines)?;
+    hold::<BothVersions<Point>>(rt.alloc(), points)
 }
 
 impl Fields for Circle {
-    fn put(&self, text: &mut String) -> Option<()> {
-        put_space(text, &self.centre)?;
-        put(text, &[self.radius, self.thickness])?;
-        put_space(text, &self.extrusion)
+    fn put(&self, report: &mut Report) {
+        put_space(report, &self.centre);
+        report.hexes(&[self.radius, self.thickness]);
+        put_space(report, &self.extrusion);
     }
 }
 
 impl Fields for Arc {
-    fn put(&self, text: &mut String) -> Option<()> {
-        put_space(text, &self.centre)?;
-        put(text, &[self.radius, self.thickness])?;
-        put_space(text, &self.extrusion)?;
-        put(text, &[self.start_angle, self.end_angle])
+    fn put(&self, report: &mut Report) {
+        put_space(report, &self.centre);
+        report.hexes(&[self.radius, self.thickness]);
+        put_space(report, &self.extrusion);
+        report.hexes(&[self.start_angle, self.end_angle]);
     }
 }
 
 /// Circles: centre, radius, thickness, extrusion. Arcs: the same, and the start and end angles. Of each the second is cut short, and in the
-/// third every number is another one.
+/// third every number is another one. In both versions, of each: every number another one; of thickness 0 and the usual extrusion; cut
+/// short in the last number.
 #[test]
-fn circles_and_arcs_are_reported_and_written(rt: HostRuntime) {
-    let alloc = rt.alloc();
-    hold::<Body<Circle>>(
-        &rt,
-        alloc,
-        "\
-        '01 '00 0000000000000040 '10 '00 0000000000000840 '0 '01 '0 '10 '01 '10 / - \
-            | = | 3FF0000000000000 4000000000000000 0 4008000000000000 3FF0000000000000 0 3FF0000000000000 0\n\
-        '01 '00 0000000000000040 '10 '00 0000000000000840 '0 '01 '0 '10 '01 / - | none\n\
-        '00 0100000000000000 '00 0200000000000000 '00 0300000000000000 '00 0400000000000000 '0 '00 0500000000000000 \
-            '0 '00 0600000000000000 '00 0700000000000000 '00 0800000000000000 / - \
-            | = | 1 2 3 4 5 6 7 8\n",
-    );
-    hold::<Body<Arc>>(
-        &rt,
-        alloc,
-        "\
-        '01 '00 0000000000000040 '10 '00 0000000000000840 '1 '1 '10 '01 / - \
-            | = | 3FF0000000000000 4000000000000000 0 4008000000000000 0 0 0 3FF0000000000000 0 3FF0000000000000\n\
-        '01 '00 0000000000000040 '10 '00 0000000000000840 / - | none\n\
-        '00 0100000000000000 '00 0200000000000000 '00 0300000000000000 '00 0400000000000000 '0 '00 0500000000000000 \
-            '0 '00 0600000000000000 '00 0700000000000000 '00 0800000000000000 '00 0900000000000000 '00 \
-            0A00000000000000 / - \
-            | = | 1 2 3 4 5 6 7 8 9 A\n",
-    );
+fn circles_and_arcs_are_reported_and_written(rt: HostRuntime) -> Result<(), Fail> {
+    let circles = "
+        '01 '00 ^40 '10 '00 ^0840 '0 '01 '0 '10 '01 '10 / - | = | x3FF^ x4^ 0 x4008^ x3FF^ 0 x3FF^ 0
+        '01 '00 ^40 '10 '00 ^0840 '0 '01 '0 '10 '01 / - | none
+        '00 01^ '00 02^ '00 03^ '00 04^ '0 '00 05^ '0 '00 06^ '00 07^ '00 08^ / - | = \
+            | '00 01^ '00 02^ '00 03^ '00 04^ '00 05^ '00 06^ '00 07^ '00 08^ / - | 1 2 3 4 5 6 7 8
+        '01 '00 ^40 '10 '00 ^0840 '1 '1 / - | = | '01 '00 ^40 '10 '00 ^0840 '10 '10 '10 '01 / - | x3FF^ x4^ 0 x4008^ 0 0 0 x3FF^
+        older '01 '00 ^40 '10 '00 ^0840 '10 '10 '10 / - | none";
+    let arcs = "
+        '01 '00 ^40 '10 '00 ^0840 '1 '1 '10 '01 / - | = | '01 '00 ^40 '10 '00 ^0840 '10 '10 '10 '01 '10 '01 / - \
+            | x3FF^ x4^ 0 x4008^ 0 0 0 x3FF^ 0 x3FF^
+        '01 '00 ^40 '10 '00 ^0840 / - | none
+        '00 01^ '00 02^ '00 03^ '00 04^ '0 '00 05^ '0 '00 06^ '00 07^ '00 08^ '00 09^ '00 0A^ / - | = \
+            | '00 01^ '00 02^ '00 03^ '00 04^ '00 05^ '00 06^ '00 07^ '00 08^ '00 09^ '00 0A^ / - | 1 2 3 4 5 6 7 8 9 xA
+        older '01 '00 ^40 '10 '00 ^0840 '10 '10 '10 '01 '10 / - | none";
+    hold::<BothVersions<Circle>>(rt.alloc(), circles)?;
+    hold::<BothVersions<Arc>>(rt.alloc(), arcs)
 }
 
-/// Adds a point of space that may not be there.
-fn put_normal(text: &mut String, normal: Option<Point3>) -> Option<()> {
+/// Reports a point of space that may not be there.
+fn put_normal(report: &mut Report, normal: Option<Point3>) {
     match normal {
-        Some(point) => put_space(text, &point),
-        None => put_none(text),
+        Some(point) => put_space(report, &point),
+        None => report.word("-"),
     }
 }
 
-/// Adds a list of points.
-fn put_points(text: &mut String, points: &[Point2]) -> Option<()> {
-    open(text)?;
+/// Reports a list of points.
+fn put_points(report: &mut Report, points: &[Point2]) {
+    report.word("[");
     for point in points {
-        put_plane(text, point)?;
+        put_plane(report, point);
     }
-    close(text)
+    report.word("]");
 }
 
-/// Adds a list of numbers that may not be there.
-fn put_bulges(text: &mut String, bulges: &Option<Items<u64>>) -> Option<()> {
+/// Reports a list of numbers that may not be there.
+fn put_bulges(report: &mut Report, bulges: &Option<Items<u64>>) {
     let Some(bulges) = bulges else {
-        return put_none(text);
+        return report.word("-");
     };
-    open(text)?;
-    put(text, bulges.as_slice())?;
-    close(text)
+    report.word("[");
+    report.hexes(bulges.as_slice());
+    report.word("]");
 }
 
-/// Adds a list of widths that may not be there.
-fn put_widths(text: &mut String, widths: &Option<Items<Width>>) -> Option<()> {
+/// Reports a list of widths that may not be there.
+fn put_widths(report: &mut Report, widths: &Option<Items<Width>>) {
     let Some(widths) = widths else {
-        return put_none(text);
+        return report.word("-");
     };
-    open(text)?;
+    report.word("[");
     for width in widths.as_slice() {
-        put(text, &[width.start, width.end])?;
+        report.hexes(&[width.start, width.end]);
     }
-    close(text)
+    report.word("]");
 }
 
 impl Fields for LwPolyline {
-    fn put(&self, text: &mut String) -> Option<()> {
-        put(text, &[u64::from(self.flag)])?;
-        put_some(text, &[self.width, self.elevation, self.thickness])?;
-        put_normal(text, self.normal)?;
-        put_points(text, self.points.as_slice())?;
-        put_bulges(text, &self.bulges)?;
-        put_widths(text, &self.widths)
+    fn put(&self, report: &mut Report) {
+        report.hexes(&[u64::from(self.flag)]);
+        put_some(report, &[self.width, self.elevation, self.thickness]);
+        put_normal(report, self.normal);
+        put_points(report, self.points.as_slice());
+        put_bulges(report, &self.bulges);
+        put_widths(report, &self.widths);
     }
 }
 
 /// Flag, width, elevation, thickness, normal, points, bulges, widths: with every part, with none, with a bulge alone; cut short, and with a
-/// count of 2^32 - 1 points of which none is there; every number another one.
+/// count of 2^32 - 1 points of which none is there; every number another one. In both versions: with every part and every number another
+/// one; of three points, of which each has a word of the one before it; of none; cut short in the last point, and with a count of 2^32 - 1
+/// points of which none is there.
 #[test]
-fn lightweight_polylines_are_reported_and_written(rt: HostRuntime) {
-    let alloc = rt.alloc();
-    hold::<Body<LwPolyline>>(
-        &rt,
-        alloc,
-        "\
-        '00 FF01 '01 '00 0000000000000040 '10 '10 '10 '01 '01 03 '01 01 '01 02 000000000000F03F 0000000000000040 \
-            '00 '11 0000000000000840 '11 0000000000000840 '00 '00 0000000000000040 '10 '01 '01 '00 0000000000000040 \
-            / - \
-            | = | 1FF 3FF0000000000000 4000000000000000 0 0 0 3FF0000000000000 [ 3FF0000000000000 4000000000000000 \
-              3FF0000000000000 4008000000000000 4008000000000000 4008000000000000 ] [ 4000000000000000 ] [ 0 \
-              3FF0000000000000 3FF0000000000000 4000000000000000 ]\n\
-        '10 '10 / - | = | 0 - - - - [ ] - -\n\
-        '01 10 '10 '01 01 '01 / - | = | 10 - - - - [ ] [ 3FF0000000000000 ] -\n\
-        '00 FF01 '01 '00 0000000000000040 '10 '10 '10 '01 '01 03 '01 01 '01 02 000000000000F03F 0000000000000040 \
-            '00 '11 0000000000000840 '11 0000000000000840 '00 '00 0000000000000040 '10 '01 '01 '00 00000000000000 \
-            '01 / - \
-            | none\n\
-        '10 '00 FFFFFFFF '0000 / - | none\n\
-        '00 3F02 '00 0100000000000000 '00 0200000000000000 '00 0300000000000000 '00 0400000000000000 '00 \
-            0500000000000000 '00 0600000000000000 '01 02 '01 01 '01 01 0700000000000000 0800000000000000 '11 \
-            0900000000000000 '11 0A00000000000000 '00 0B00000000000000 '00 0C00000000000000 '00 0D00000000000000 / \
-            - \
-            | '00 3F02 '00 0100000000000000 '00 0200000000000000 '00 0300000000000000 '00 0400000000000000 '00 \
-              0500000000000000 '00 0600000000000000 '01 02 '01 01 '01 01 0700000000000000 0800000000000000 '01 \
-              09000000 '01 0A000000 '00 0B00000000000000 '00 0C00000000000000 '00 0D00000000000000 / - \
-            | 23F 1 2 3 4 5 6 [ 7 8 9 A ] [ B ] [ C D ]\n",
-    );
+fn lightweight_polylines_are_reported_and_written(rt: HostRuntime) -> Result<(), Fail> {
+    let cases = "
+        '00 FF01 '01 '00 ^40 '10 '10 '10 '01 '01 03 '01 01 '01 02 ^F03F ^40 '00 '11 ^0840 '11 ^0840 '00 '00 ^40 '10 '01 '01 '00 ^40 / - | = \
+            | x1FF x3FF^ x4^ 0 0 0 x3FF^ [ x3FF^ x4^ x3FF^ x4008^ x4008^ x4008^ ] [ x4^ ] [ 0 x3FF^ x3FF^ x4^ ]
+        '10 '10 / - | = | = | 0 - - - - [ ] - -
+        '01 10 '10 '01 01 '01 / - | = | x10 - - - - [ ] [ x3FF^ ] -
+        '00 FF01 '01 '00 ^40 '10 '10 '10 '01 '01 03 '01 01 '01 02 ^F03F ^40 '00 '11 ^0840 '11 ^0840 '00 '00 ^40 '10 '01 '01 '00 00000000000000 '01 / \
+            - | none
+        '10 '00 FFFFFFFF '0000 / - | none
+        '00 3F02 '00 01^ '00 02^ '00 03^ '00 04^ '00 05^ '00 06^ '01 02 '01 01 '01 01 07^ 08^ '11 09^ '11 0A^ '00 0B^ '00 0C^ '00 0D^ / - \
+            | '00 3F02 '00 01^ '00 02^ '00 03^ '00 04^ '00 05^ '00 06^ '01 02 '01 01 '01 01 07^ 08^ '01 09000000 '01 0A000000 '00 0B^ '00 0C^ '00 \
+            0D^ / - | x23F 1 2 3 4 5 6 [ 7 8 9 xA ] [ xB ] [ xC xD ]
+        '00 3F02 '00 01^ '00 02^ '00 03^ '00 04^ '00 05^ '00 06^ '01 02 '01 01 '01 01 07^ 08^ '01 09000000 '01 0A000000 '00 0B^ '00 0C^ '00 0D^ / - \
+            | = | '00 3F02 '00 01^ '00 02^ '00 03^ '00 04^ '00 05^ '00 06^ '01 02 '01 01 '01 01 07^ 08^ 09^ 0A^ '00 0B^ '00 0C^ '00 0D^ / - \
+            | x23F 1 2 3 4 5 6 [ 7 8 9 xA ] [ xB ] [ xC xD ]
+        '10 '01 03 01^ 02^ '00 '01 03000000 '01 04000000 '00 / - | = | '10 '01 03 01^ 02^ 01^ 03^ 04^ 03^ / - | 0 - - - - [ 1 2 1 3 4 3 ] - -
+        older '10 '01 02 01^ 02^ 03^ 04000000000000 / - | none
+        older '10 '00 FFFFFFFF '0000 / - | none";
+    hold::<BothVersions<LwPolyline>>(rt.alloc(), cases)
 }

@@ -2,11 +2,11 @@
 //! and where it is cut at each length.
 
 use crate::tests::inputs::input_of;
-use crate::tests::runs::{PLENTY, every_line, in_pieces, leaves_in_pieces, ran, wanted_of};
+use crate::tests::runs::{PLENTY, in_pieces, ran, report_in_pieces, wanted_of};
 use dwg_base::Refusal;
 use dwg_base::refusal_lines::{CERTIFICATE_LENGTH, CERTIFICATE_SHORT};
 use dwg_commands::Status;
-use dwg_testkit::Case;
+use dwg_testkit::{Case, Line, Report, hold};
 use std::alloc::Global;
 use std::test::Fail;
 
@@ -26,22 +26,15 @@ fn together(alloc: Global, certificate: &str, drawing: &str) -> Option<Vec<u8>> 
     Some(bytes)
 }
 
-/// `CERTIFICATE | DRAWING | STATUS | OUTPUT | NOTES`: what `accept` leaves of both, one after the other.
+/// `CERTIFICATE | DRAWING | OUTPUT | NOTES`: how `accept` of both, one after the other, ends that writes so.
 struct Accepted;
 
 impl Case for Accepted {
-    fn holds(alloc: Global, line: &str) -> bool {
-        is_accepted(alloc, line).unwrap_or(false)
+    fn report(line: &mut Line<'_>, report: &mut Report) -> Option<()> {
+        let bytes = together(line.alloc, line.field(0)?, line.field(1)?)?;
+        let wanted = wanted_of(line.alloc, line.field(2)?, line.field(3)?)?;
+        report_in_pieces(line.alloc, "dwg accept", &bytes, &wanted, report)
     }
-}
-
-/// Whether `accept` leaves what a line says.
-fn is_accepted(alloc: Global, line: &str) -> Option<bool> {
-    let (certificate, rest) = line.split_once(" | ")?;
-    let (drawing, text) = rest.split_once(" | ")?;
-    let bytes = together(alloc, certificate, drawing)?;
-    let wanted = wanted_of(alloc, text)?;
-    Some(leaves_in_pieces(alloc, "dwg accept", &bytes, &wanted))
 }
 
 /// Whether a certificate with a number changed isn't accepted before its drawing.
@@ -127,13 +120,11 @@ fn first_unrefused(alloc: Global, certificate: &[u8], drawing: &[u8]) -> Option<
 
 #[test]
 fn accepts_a_certificate_of_its_drawing_alone(rt: HostRuntime) -> Result<(), Fail> {
-    every_line::<Accepted>(
-        rt.alloc(),
-        "\
-certificate/made/1/7 | made/1/7 | Done | accept yes | -
-certificate/made/1/7 | made/2/7 | Found | accept no | -
-nothing | smallest | Refused 35 0 0 | - | dwg: refused: certificate 0 at 0: begin",
-    )
+    let cases = "
+        certificate/made/1/7 | made/1/7 | accept yes | - | Done
+        certificate/made/1/7 | made/2/7 | accept no | - | Found
+        nothing | smallest | - | dwg: refused: certificate 0 at 0: begin | refused 35 0 0";
+    hold::<Accepted>(rt.alloc(), cases)
 }
 
 #[test]

@@ -2,8 +2,9 @@
 
 use crate::tests::commands::OverDevices;
 use crate::tests::inputs::input_of;
-use crate::tests::runs::{PLENTY, every_line, in_pieces, ran};
+use crate::tests::runs::{PLENTY, in_pieces, ran};
 use dwg_commands::Status;
+use dwg_testkit::hold;
 use std::alloc::Global;
 use std::test::Fail;
 
@@ -139,12 +140,10 @@ fn failing_notes_are_reported(rt: HostRuntime) -> Result<(), Fail> {
 
 #[test]
 fn devices_of_a_large_drawing_are_reported(rt: HostRuntime) -> Result<(), Fail> {
-    every_line::<OverDevices>(
-        rt.alloc(),
-        "\
-dwg rewrite | 1 0 1 0 | made/1/7 | Done | file made/1/7 | -
-dwg audit | 1 0 1 0 | made/1/7 | Done | audit yes | -
-dwg rewrite | 1000 2 1000000 0 | made/1/7 | ReadFault | - | dwg: read fault
-dwg rewrite | 1000000 0 10 3 | made/1/7 | WriteFault | file made/1/7 #20 | -",
-    )
+    let cases = "
+        dwg rewrite | 1 0 1 0 | made/1/7 | file made/1/7 | - | Done
+        dwg audit | 1 0 1 0 | made/1/7 | audit yes | - | Done
+        dwg rewrite | 1000 2 1000000 0 | made/1/7 | - | dwg: read fault | ReadFault
+        dwg rewrite | 1000000 0 10 3 | made/1/7 | file made/1/7 #20 | - | WriteFault";
+    hold::<OverDevices>(rt.alloc(), cases)
 }

@@ -2,11 +2,10 @@
 
 use crate::run::run;
 use crate::tests::inputs::input_of;
-use dwg_base::{ByteRun, Items, MemSink, MemSource, Refusal};
+use dwg_base::{ByteRun, Items, MemSink, MemSource};
 use dwg_commands::Status;
-use dwg_testkit::{Case, first_failing};
+use dwg_testkit::{Case, Line, Report};
 use std::alloc::Global;
-use std::test::Fail;
 
 /// How much a call of a device gives or takes at the most, and how much a sink holds, where nothing holds it back: no drawing is larger.
 pub(crate) const PLENTY: usize = 33_554_432;
@@ -131,41 +130,18 @@ pub(crate) fn written(alloc: Global, line: &str, bytes: &[u8], room: usize) -> O
     }
 }
 
-/// The refusal by line, index and place.
-fn refusal_of(text: &str) -> Option<Status> {
-    let (line, rest) = text.split_once(" ")?;
-    let (index, place) = rest.split_once(" ")?;
-    let line: u8 = line.parse().ok()?;
-    if !(1..=37).contains(&line) {
-        return None;
-    }
-    let place = place.parse().ok()?;
-    Some(Status::Refused(Refusal::new(line, index.parse().ok()?, place)))
-}
-
-/// The status that takes no number.
-fn plain_status_of(text: &str) -> Option<Status> {
-    match text {
-        "Done" => Some(Status::Done),
-        "Found" => Some(Status::Found),
-        "Usage" => Some(Status::Usage),
-        "ReadFault" => Some(Status::ReadFault),
-        "WriteFault" => Some(Status::WriteFault),
-        "NoMemory" => Some(Status::NoMemory),
-        "TooLong" => Some(Status::TooLong),
-        _ => None,
-    }
-}
-
-/// A status by its name, with its numbers after it: `Done`, `Refused 26 3 204`, `TooLarge 34000205`.
-pub(crate) fn status_of(text: &str) -> Option<Status> {
-    match text.split_once(" ") {
-        None => plain_status_of(text),
-        Some(("Refused", numbers)) => refusal_of(numbers),
-        Some(("TooLarge", size)) => Some(Status::TooLarge {
-            size: size.parse().ok()?,
-        }),
-        Some(_) => None,
+/// Reports how a run ended: its name, with its numbers after it.
+fn report_status(status: &Status, report: &mut Report) {
+    match status {
+        Status::Done => report.word("Done"),
+        Status::Found => report.word("Found"),
+        Status::Usage => report.word("Usage"),
+        Status::Refused(refusal) => report.refusal(*refusal),
+        Status::ReadFault => report.word("ReadFault"),
+        Status::WriteFault => report.word("WriteFault"),
+        Status::NoMemory => report.word("NoMemory"),
+        Status::TooLong => report.word("TooLong"),
+        Status::TooLarge { size } => report.number(*size),
     }
 }
 
@@ -200,81 +176,69 @@ fn output_of(alloc: Global, text: &str) -> Option<Vec<u8>> {
     }
 }
 
-/// What a run has to leave.
+/// What a run has to write.
 #[derive(Drop)]
 pub(crate) struct Wanted {
-    /// How it has to end.
-    pub(crate) status: Status,
     /// What it has to write to the output.
     pub(crate) output: Vec<u8>,
     /// What it has to write to the notes.
     pub(crate) notes: Vec<u8>,
 }
 
-/// What a run has to leave, by a text `STATUS | OUTPUT | NOTES`.
-pub(crate) fn wanted_of(alloc: Global, text: &str) -> Option<Wanted> {
-    let (status, rest) = text.split_once(" | ")?;
-    let (output, notes) = rest.split_once(" | ")?;
+/// What a run has to write, by texts.
+pub(crate) fn wanted_of(alloc: Global, output: &str, notes: &str) -> Option<Wanted> {
     Some(Wanted {
-        status: status_of(status)?,
         output: output_of(alloc, output)?,
         notes: lines_of(alloc, notes)?,
     })
 }
 
-/// Whether a run left what is wanted.
-fn is_wanted(ran: &Left, wanted: &Wanted) -> bool {
-    ran.status == wanted.status
-        && ran.output.as_slice() == wanted.output.as_slice()
-        && ran.notes.as_slice() == wanted.notes.as_slice()
+/// Reports how a run ended; and what it wrote, where that isn't what is wanted.
+pub(crate) fn report_left(left: &Left, wanted: &Wanted, report: &mut Report) {
+    report_status(&left.status, report);
+    if left.output.as_slice() != wanted.output.as_slice() {
+        report.word("with the output");
+        report.quoted(left.output.as_slice());
+    }
+    if left.notes.as_slice() != wanted.notes.as_slice() {
+        report.word("with the notes");
+        report.quoted(left.notes.as_slice());
+    }
 }
 
-/// Whether a run over such devices leaves what is wanted.
-pub(crate) fn leaves(
+/// Whether a run whose devices give and take at most `most` bytes a call leaves what another one left.
+fn leaves(alloc: Global, line: &str, bytes: &[u8], most: usize, left: &Left) -> Option<bool> {
+    let ran = ran(alloc, line, bytes, in_pieces(most))?;
+    Some(
+        ran.status == left.status
+            && ran.output.as_slice() == left.output.as_slice()
+            && ran.notes.as_slice() == left.notes.as_slice(),
+    )
+}
+
+/// Reports that of a run; and if runs leave something else whose devices give and take one byte a call, or ten.
+pub(crate) fn report_in_pieces(
     alloc: Global,
     line: &str,
     bytes: &[u8],
-    devices: Devices,
     wanted: &Wanted,
-) -> bool {
-    match ran(alloc, line, bytes, devices) {
-        Some(ran) => is_wanted(&ran, wanted),
-        None => false,
+    report: &mut Report,
+) -> Option<()> {
+    let left = ran(alloc, line, bytes, in_pieces(PLENTY))?;
+    report_left(&left, wanted, report);
+    if !leaves(alloc, line, bytes, 1, &left)? || !leaves(alloc, line, bytes, 10, &left)? {
+        report.word("otherwise in pieces");
     }
+    Some(())
 }
 
-/// Whether runs whose devices give and take one byte a call, ten, and all leave what is wanted.
-pub(crate) fn leaves_in_pieces(alloc: Global, line: &str, bytes: &[u8], wanted: &Wanted) -> bool {
-    [1, 10, PLENTY].iter().all(|most| leaves(alloc, line, bytes, in_pieces(*most), wanted))
-}
-
-/// Whether such runs over an input leave what a text says, `STATUS | OUTPUT | NOTES`.
-pub(crate) fn answers_text(alloc: Global, line: &str, input: &str, text: &str) -> Option<bool> {
-    let bytes = input_of(alloc, input)?;
-    let wanted = wanted_of(alloc, text)?;
-    Some(leaves_in_pieces(alloc, line, &bytes, &wanted))
-}
-
-/// `COMMAND LINE | INPUT | STATUS | OUTPUT | NOTES`: what such runs leave.
+/// `COMMAND LINE | INPUT | OUTPUT | NOTES`: how such runs end that write so.
 pub(crate) struct Answers;
 
 impl Case for Answers {
-    fn holds(alloc: Global, line: &str) -> bool {
-        is_answered(alloc, line).unwrap_or(false)
-    }
-}
-
-/// Whether the runs of a line leave what it says.
-fn is_answered(alloc: Global, line: &str) -> Option<bool> {
-    let (command, rest) = line.split_once(" | ")?;
-    let (input, wanted) = rest.split_once(" | ")?;
-    answers_text(alloc, command, input, wanted)
-}
-
-/// Fails by the first line of a table that doesn't report the truth.
-pub(crate) fn every_line<C: Case>(alloc: Global, table: &str) -> Result<(), Fail> {
-    match first_failing::<C>(alloc, table) {
-        None => Ok(()),
-        Some(case) => Err(Fail::new(case)),
+    fn report(line: &mut Line<'_>, report: &mut Report) -> Option<()> {
+        let bytes = input_of(line.alloc, line.field(1)?)?;
+        let wanted = wanted_of(line.alloc, line.field(2)?, line.field(3)?)?;
+        report_in_pieces(line.alloc, line.field(0)?, &bytes, &wanted, report)
     }
 }

@@ -2,38 +2,29 @@
 
 ghost use Rattle.std.specs.Prelude.{◌≡◌, ◌≤◌, ◌<◌, length};
 
-use crate::tests::lines::{Line, Tale, all_hold};
-use crate::tests::reported::Reported;
 use dwg_check::{CHECK_SEED, SpanChecks, check, header_word, shift};
 use dwg_steps::Steps;
+use dwg_testkit::{Case, Line, Report, hold};
 use std::alloc::Global;
 use std::marker::Brand;
 use std::sync::ledger::{Blank, Ledger};
+use std::test::Fail;
 
-/// `START : BYTES | their check word`
-struct Words;
-
-impl Tale for Words {
-    fn report(_alloc: Global, line: &Line<'_>, reported: &mut Reported) {
-        let [start, _, _, _, _] = line.numbers;
-        let word = check((start % 65_536) as u16, line.bytes());
-        reported.hex(u64::from(word));
-    }
+/// `word START | BYTES`: their check word
+fn case_word(line: &mut Line<'_>, report: &mut Report) -> Option<()> {
+    let [start, ..] = line.numbers()?;
+    let word = check((start % 65_536) as u16, &line.bytes(1)?);
+    report.hex(u64::from(word));
+    Some(())
 }
 
-/// `COUNT : BYTES | the check word of a header with so many locators after these bytes`
-struct HeaderWords;
-
-impl Tale for HeaderWords {
-    fn report(_alloc: Global, line: &Line<'_>, reported: &mut Reported) {
-        let [count, _, _, _, _] = line.numbers;
-        let word = header_word(count.clamp(3, 6) as u32, line.bytes());
-        reported.hex(u64::from(word));
-    }
+/// `header COUNT | BYTES`: the check word of a header with so many locators after these bytes
+fn case_header(line: &mut Line<'_>, report: &mut Report) -> Option<()> {
+    let [count, ..] = line.numbers()?;
+    let word = header_word(count.clamp(3, 6) as u32, &line.bytes(1)?);
+    report.hex(u64::from(word));
+    Some(())
 }
-
-/// `START COUNT ZEROS | the word after a shift by the count, and whether that is the check word of so many zero bytes`
-struct Shifts;
 
 /// The word after so many zero bytes, byte by byte.
 fn after_each(start: u16, zeros: u64) -> u16 {
@@ -44,17 +35,14 @@ fn after_each(start: u16, zeros: u64) -> u16 {
     word
 }
 
-impl Tale for Shifts {
-    fn report(_alloc: Global, line: &Line<'_>, reported: &mut Reported) {
-        let [start, count, zeros, _, _] = line.numbers;
-        let start = (start % 65_536) as u16;
-        reported.hex(u64::from(shift(start, count)));
-        reported.hex(u64::from(after_each(start, zeros)));
-    }
+/// `shift START COUNT ZEROS`: the word after a shift by the count, and whether that is the check word of so many zero bytes
+fn case_shift(line: &mut Line<'_>, report: &mut Report) -> Option<()> {
+    let [start, count, zeros, ..] = line.numbers()?;
+    let start = (start % 65_536) as u16;
+    report.hex(u64::from(shift(start, count)));
+    report.hex(u64::from(after_each(start, zeros)));
+    Some(())
 }
-
-/// `FROM TO : BYTES | the check word of this span of the bytes, begun as C0C1, by the words of prefixes, and byte by byte`
-struct Spans;
 
 /// The word of a span, with a counter of the ledger that the blank opens.
 fn span_counted<L: Ledger>(
@@ -83,31 +71,32 @@ fn span_word(checks: &SpanChecks<'_>, start: u16, from: usize, to: usize) -> u16
 }
 
 /// Reports the word of a span by the words of prefixes.
-fn report_span(alloc: Global, bytes: &[u8], from: usize, to: usize, reported: &mut Reported) {
+fn report_span(alloc: Global, bytes: &[u8], from: usize, to: usize, report: &mut Report) {
     if from > to || to > bytes.len() {
         return;
     }
     match SpanChecks::build(alloc, bytes) {
-        Ok(checks) => reported.hex(u64::from(span_word(&checks, 0xC0C1, from, to))),
-        Err(_) => reported.word("no memory"),
+        Ok(checks) => report.hex(u64::from(span_word(&checks, 0xC0C1, from, to))),
+        Err(_) => report.word("no memory"),
     }
 }
 
 /// Reports the word of a span byte by byte.
-fn report_bytes(bytes: &[u8], from: usize, to: usize, reported: &mut Reported) {
+fn report_bytes(bytes: &[u8], from: usize, to: usize, report: &mut Report) {
     if let Some(span) = bytes.get(from..to) {
-        reported.hex(u64::from(check(0xC0C1, span)));
+        report.hex(u64::from(check(0xC0C1, span)));
     }
 }
 
-impl Tale for Spans {
-    fn report(alloc: Global, line: &Line<'_>, reported: &mut Reported) {
-        let [from, to, _, _, _] = line.numbers;
-        let from = from.min(1_000) as usize;
-        let to = to.min(1_000) as usize;
-        report_span(alloc, line.bytes(), from, to, reported);
-        report_bytes(line.bytes(), from, to, reported);
-    }
+/// `span FROM TO | BYTES`: the check word of this span of the bytes, begun as C0C1, by the words of prefixes, and byte by byte
+fn case_span(line: &mut Line<'_>, report: &mut Report) -> Option<()> {
+    let [from, to, ..] = line.numbers()?;
+    let from = from.min(1_000) as usize;
+    let to = to.min(1_000) as usize;
+    let bytes = line.bytes(1)?;
+    report_span(line.alloc, &bytes, from, to, report);
+    report_bytes(&bytes, from, to, report);
+    Some(())
 }
 
 /// How many of the first `count` places stand before one from which the check word of the span up to `to` isn't that of a shift by as many
@@ -142,68 +131,65 @@ fn spans_of_zeros(alloc: Global, zeros: usize, count: usize) -> Option<usize> {
     spans_to_the_end(alloc, &bytes, count)
 }
 
+/// What is tried is told at the functions.
+struct CheckCases;
+
+impl Case for CheckCases {
+    fn report(line: &mut Line<'_>, report: &mut Report) -> Option<()> {
+        match line.name() {
+            "word" => case_word(line, report),
+            "header" => case_header(line, report),
+            "shift" => case_shift(line, report),
+            "span" => case_span(line, report),
+            _ => None,
+        }
+    }
+}
+
 #[test]
-fn check_words_shifts_and_spans_are_those_of_the_polynomial(rt: HostRuntime) {
-    let alloc = rt.alloc();
-    // The third is the end of a map: a page of size 2. Nine zero bytes lead from the constant of a count of locators to that of the next.
-    all_hold::<Words>(
-        &rt,
-        alloc,
-        "\
-        0 : 313233343536373839 | xBB3D\n\
-        xC0C1 | xC0C1\n\
-        xC0C1 : 0002 | x1D0\n\
-        xA598 : 000000000000000000 | x8101\n\
-        x8101 : 000000000000000000 | x3CC4\n\
-        x3CC4 : 000000000000000000 | x8461",
-    );
-    // The words of the digits 1 to 9 are BB3D xor the constants.
-    all_hold::<HeaderWords>(
-        &rt,
-        alloc,
-        "\
-        3 | xA598\n\
-        4 | x8101\n\
-        5 | x3CC4\n\
-        6 | x8461\n\
-        3 : 313233343536373839 | x1EA5\n\
-        4 : 313233343536373839 | x3A3C\n\
-        5 : 313233343536373839 | x87F9\n\
-        6 : 313233343536373839 | x3F5C",
-    );
-    // 32,767 zero bytes leave each word, and the largest count is 15 more than a multiple of that.
-    all_hold::<Shifts>(
-        &rt,
-        rt.alloc(),
-        "\
-        xA598 9 9 | x8101 x8101\n\
-        x8101 9 9 | x3CC4 x3CC4\n\
-        x3CC4 9 9 | x8461 x8461\n\
-        xC0C1 0 0 | xC0C1 xC0C1\n\
-        xC0C1 1 1 | x9001 x9001\n\
-        xC0C1 2 2 | xC051 xC051\n\
-        xC0C1 15 15 | x90C1 x90C1\n\
-        xC0C1 16 16 | x9051 x9051\n\
-        xC0C1 255 255 | xFCC1 xFCC1\n\
-        xC0C1 32766 32766 | x1 x1\n\
-        xC0C1 32767 32767 | xC0C1 xC0C1\n\
-        xC0C1 32768 32768 | x9001 x9001\n\
-        xC0C1 65535 65535 | x9001 x9001\n\
-        xC0C1 18446744073709551615 15 | x90C1 x90C1",
-    );
-    // The size and the check word of the page that ends a map.
-    all_hold::<Spans>(
-        &rt,
-        rt.alloc(),
-        "\
-        0 2 : 00 02 01 D0 | x1D0 x1D0\n\
-        0 0 : 00 02 01 D0 | xC0C1 xC0C1\n\
-        0 4 : 00 02 01 D0 | xC9C xC9C\n\
-        1 3 : 00 02 01 D0 | x6091 x6091\n\
-        2 4 : 00 02 01 D0 | xCC51 xCC51\n\
-        3 4 : 00 02 01 D0 | xC00 xC00\n\
-        4 4 : 00 02 01 D0 | xC0C1 xC0C1",
-    );
+fn check_words_shifts_and_spans_are_those_of_the_polynomial(rt: HostRuntime) -> Result<(), Fail> {
+    let cases = "
+        # The third is the end of a map: a page of size 2. Nine zero bytes lead from the constant of a count of locators to that of the
+        # next.
+        word 0 | 313233343536373839 | xBB3D
+        word xC0C1 | - | xC0C1
+        word xC0C1 | 0002 | x1D0
+        word xA598 | 000000000000000000 | x8101
+        word x8101 | 000000000000000000 | x3CC4
+        word x3CC4 | 000000000000000000 | x8461
+        # The words of the digits 1 to 9 are BB3D xor the constants.
+        header 3 | - | xA598
+        header 4 | - | x8101
+        header 5 | - | x3CC4
+        header 6 | - | x8461
+        header 3 | 313233343536373839 | x1EA5
+        header 4 | 313233343536373839 | x3A3C
+        header 5 | 313233343536373839 | x87F9
+        header 6 | 313233343536373839 | x3F5C
+        # 32,767 zero bytes leave each word, and the largest count is 15 more than a multiple of that.
+        shift xA598 9 9 | x8101 x8101
+        shift x8101 9 9 | x3CC4 x3CC4
+        shift x3CC4 9 9 | x8461 x8461
+        shift xC0C1 0 0 | xC0C1 xC0C1
+        shift xC0C1 1 1 | x9001 x9001
+        shift xC0C1 2 2 | xC051 xC051
+        shift xC0C1 15 15 | x90C1 x90C1
+        shift xC0C1 16 16 | x9051 x9051
+        shift xC0C1 255 255 | xFCC1 xFCC1
+        shift xC0C1 32766 32766 | 1 1
+        shift xC0C1 32767 32767 | xC0C1 xC0C1
+        shift xC0C1 32768 32768 | x9001 x9001
+        shift xC0C1 65535 65535 | x9001 x9001
+        shift xC0C1 18446744073709551615 15 | x90C1 x90C1
+        # The size and the check word of the page that ends a map.
+        span 0 2 | 00 02 01 D0 | x1D0 x1D0
+        span 0 0 | 00 02 01 D0 | xC0C1 xC0C1
+        span 0 4 | 00 02 01 D0 | xC9C xC9C
+        span 1 3 | 00 02 01 D0 | x6091 x6091
+        span 2 4 | 00 02 01 D0 | xCC51 xCC51
+        span 3 4 | 00 02 01 D0 | xC00 xC00
+        span 4 4 | 00 02 01 D0 | xC0C1 xC0C1";
+    hold::<CheckCases>(rt.alloc(), cases)
 }
 
 #[test]

@@ -3,8 +3,8 @@
 ghost use Rattle.std.specs.Prelude.{◌≡◌, ◌≤◌, []};
 ghost use Rattle.std.specs.Bool.{OnTrue};
 
-use crate::tests::reported::Reported;
 use dwg_bits::{BitCursor, BitSink};
+use dwg_testkit::Report;
 
 /// The most bits that a test writes at a time.
 const MOST: u64 = 10_000;
@@ -55,6 +55,6 @@ pub fn bytes_in(sink: &BitSink) -> &[u8] {
 }
 
 /// Reports the bytes of a sink that ends at a whole byte.
-pub fn report_sink(sink: &BitSink, reported: &mut Reported) {
-    reported.bytes(bytes_in(sink));
+pub fn report_sink(sink: &BitSink, report: &mut Report) {
+    report.bytes(bytes_in(sink));
 }

@@ -1,8 +1,8 @@
 //! Values that are read again where they are written, at each of the bit positions 0 to 15.
 
-use crate::tests::reported::Reported;
 use crate::tests::sinks::{bytes_in, cursor_of, pad, push_low};
 use dwg_bits::{BitCursor, BitSink};
+use dwg_testkit::Report;
 use std::alloc::Global;
 
 /// What is written by bits and read again.
@@ -41,17 +41,17 @@ fn bits_at<V: Traveller>(alloc: Global, value: &V, place: u64) -> Option<u64>
 }
 
 /// Reports by how many bits a value is written, the same at each bit position, or that it isn't read again.
-pub fn report_travel<V: Traveller>(alloc: Global, value: &V, reported: &mut Reported)
+pub fn report_travel<V: Traveller>(alloc: Global, value: &V, report: &mut Report)
     requires { V.IsSpelled value.now }
 {
     let bits = bits_at(alloc, value, 0);
     for place in 1..16u64 {
         if bits_at(alloc, value, place) != bits {
-            return reported.word("lost");
+            return report.word("lost");
         }
     }
     match bits {
-        Some(bits) => reported.number(bits),
-        None => reported.word("lost"),
+        Some(bits) => report.number(bits),
+        None => report.word("lost"),
     }
 }

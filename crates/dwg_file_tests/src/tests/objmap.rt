@@ -4,110 +4,87 @@ ghost use Rattle.std.specs.Prelude.{◌≡◌, ◌^◌, ◌<◌, IfSome};
 ghost use Rattle.dwg_objmap.specs.MapLines.{HasPage};
 ghost use Rattle.dwg_objmap.specs.Writing.{FRESH};
 
-use crate::tests::inputs::{number, placed, small};
-use crate::tests::reported;
-use crate::tests::table::{Reporting, hold};
 use dwg_base::{Handle, Items, MemSink, WriteFault};
 use dwg_objmap::{
-    Page, PageWriter, Pair, map_laws, map_length, map_writing_laws, page_holds, page_laws,
-    page_pairs, page_size, read_map, read_page,
+    PageWriter, Pair, map_laws, map_length, map_writing_laws, page_holds, page_laws, page_pairs,
+    page_size, read_map, read_page,
 };
+use dwg_testkit::{Case, Line, Report, hold};
 use std::alloc::Global;
 use std::test::Fail;
 
-/// Adds a pair: its handle in hexadecimal digits, and its place.
-fn report_pair(reported: &mut String, pair: Pair) -> Option<()> {
-    let handle = pair.handle.value();
-    let place = pair.place;
-    write!(reported, " {handle:X}:{place}").ok()
+/// Reports pairs: of each its handle, and its place.
+fn report_pairs(pairs: &[Pair], report: &mut Report) {
+    for pair in pairs {
+        report.hex(pair.handle.value());
+        report.number(pair.place);
+    }
 }
 
-/// Adds pairs; `-` where there are none.
-fn report_pairs(reported: &mut String, pairs: &[Pair]) -> Option<()> {
-    if pairs.is_empty() {
-        return reported::word(reported, "-");
-    }
-    for pair in pairs {
-        report_pair(reported, *pair)?;
+/// `map PLACE | BYTES`: the pairs that are read of the map at the place.
+fn case_map(line: &mut Line<'_>, report: &mut Report) -> Option<()> {
+    let [place, ..] = line.numbers()?;
+    match read_map(line.alloc, &line.bytes(1)?, place) {
+        Ok(pairs) => report_pairs(pairs.as_slice(), report),
+        Err(fault) => report.fault(fault),
     }
     Some(())
-}
-
-/// `PLACE | BYTES => HANDLE:PLACE ..`: the pairs that are read of the map at a place, `-` for none; or `refused LINE INDEX PLACE`.
-struct Maps;
-
-/// Adds what is read of the map at a place.
-fn report_map(alloc: Global, reported: &mut String, bytes: &[u8], place: u64) -> Option<()> {
-    match read_map(alloc, bytes, place) {
-        Ok(pairs) => report_pairs(reported, pairs.as_slice()),
-        Err(fault) => reported::fault(reported, fault),
-    }
-}
-
-impl Reporting for Maps {
-    fn report(alloc: Global, reported: &mut String, input: &str) -> Option<()> {
-        let (place, bytes) = placed(alloc, input)?;
-        report_map(alloc, reported, &bytes, place)
-    }
 }
 
 #[test]
 fn pairs_are_read_in_map_order(rt: HostRuntime) -> Result<(), Fail> {
     map_laws();
-    // No pairs; one; a second page with a lesser handle, and a place that is written from 0 again; both steps spelled by one byte more than
-    // is needed; and the greatest place.
-    let cases = "\
-        0 | 000201D0 => -\n\
-        0 | 0005 0CB701 2E77 000201D0 => C:183\n\
-        0 | 0004 0510 9D7E 0004 0320 297D 000201D0 => 5:16 3:32\n\
-        0 | 0007 8C00B78100 D201 000201D0 => C:183\n\
-        0 | 000D 01FFFFFFFFFFFFFFFFFF00 2D98 000201D0 => 1:9223372036854775807\n";
-    hold::<Maps>(&rt, rt.alloc(), cases);
-    Ok(())
+    let cases = "
+        # No pairs; one; a second page with a lesser handle, and a place that is written from 0 again; both steps spelled by one byte more
+        # than is needed; and the greatest place.
+        map 0 | 000201D0 | -
+        map 0 | 0005 0CB701 2E77 000201D0 | xC 183
+        map 0 | 0004 0510 9D7E 0004 0320 297D 000201D0 | 5 16 3 32
+        map 0 | 0007 8C00B78100 D201 000201D0 | xC 183
+        map 0 | 000D 01FFFFFFFFFFFFFFFFFF00 2D98 000201D0 | 1 9223372036854775807";
+    hold::<MapCases>(rt.alloc(), cases)
 }
 
 #[test]
 fn names_the_first_line_of_the_map_that_fails(rt: HostRuntime) -> Result<(), Fail> {
-    // Sizes of 0 and 1; the null handle; a handle twice in a page, and in two pages; a place before the begin of the file, and one step
-    // after the greatest; a handle one step after the greatest; a pair that the page cuts off; a step of eleven bytes. The place counts
-    // from the begin of the input, and no place is too great to ask for.
-    let cases = "\
-        0 | 000001D0 => refused 22 0 0\n\
-        0 | 000101D0 => refused 22 0 0\n\
-        0 | 0005 00B701 2DB7 => refused 25 0 2\n\
-        0 | 0007 0CB7010010 C2A7 => refused 26 0 5\n\
-        0 | 0004 0510 9D7E 0006 03200201 EE59 000201D0 => refused 26 1 10\n\
-        0 | 0004 0C41 31B9 => refused 24 0 2\n\
-        0 | 000F 01FFFFFFFFFFFFFFFFFF000101 4F68 => refused 24 0 13\n\
-        0 | 000E FFFFFFFFFFFFFFFF7F000100 DF9B => refused 24 0 12\n\
-        0 | 0004 0CB7 7739 => refused 24 0 2\n\
-        0 | 000E 808080808080808080800000 82A5 => refused 24 0 2\n\
-        3 | FFFFFF 0005 00B701 2DB7 => refused 25 0 5\n\
-        18446744073709551615 | 0005 0CB701 2E77 000201D0 => refused 21 0 18446744073709551615\n";
-    hold::<Maps>(&rt, rt.alloc(), cases);
-    Ok(())
+    let cases = "
+        # Sizes of 0 and 1; the null handle; a handle twice in a page, and in two pages; a place before the begin of the file, and one step
+        # after the greatest; a handle one step after the greatest; a pair that the page cuts off; a step of eleven bytes. The place counts
+        # from the begin of the input, and no place is too great to ask for.
+        map 0 | 000001D0 | refused 22 0 0
+        map 0 | 000101D0 | refused 22 0 0
+        map 0 | 0005 00B701 2DB7 | refused 25 0 2
+        map 0 | 0007 0CB7010010 C2A7 | refused 26 0 5
+        map 0 | 0004 0510 9D7E 0006 03200201 EE59 000201D0 | refused 26 1 10
+        map 0 | 0004 0C41 31B9 | refused 24 0 2
+        map 0 | 000F 01FFFFFFFFFFFFFFFFFF000101 4F68 | refused 24 0 13
+        map 0 | 000E FFFFFFFFFFFFFFFF7F000100 DF9B | refused 24 0 12
+        map 0 | 0004 0CB7 7739 | refused 24 0 2
+        map 0 | 000E 808080808080808080800000 82A5 | refused 24 0 2
+        map 3 | FFFFFF 0005 00B701 2DB7 | refused 25 0 5
+        map 18446744073709551615 | 0005 0CB701 2E77 000201D0 | refused 21 0 18446744073709551615";
+    hold::<MapCases>(rt.alloc(), cases)
 }
 
 #[test]
 fn a_map_that_is_cut_or_changed_is_refused(rt: HostRuntime) -> Result<(), Fail> {
-    // The map of one pair, cut at each byte, and with one bit of a byte turned.
-    let cases = "\
-        0 | - => refused 21 0 0\n\
-        0 | 00 => refused 21 0 0\n\
-        0 | 0005 => refused 21 0 0\n\
-        0 | 00050C => refused 21 0 0\n\
-        0 | 00050CB7 => refused 21 0 0\n\
-        0 | 00050CB701 => refused 21 0 0\n\
-        0 | 00050CB7012E => refused 21 0 0\n\
-        0 | 00050CB7012E77 => refused 21 1 7\n\
-        0 | 00050CB7012E7700 => refused 21 1 7\n\
-        0 | 00050CB7012E770002 => refused 21 1 7\n\
-        0 | 00050CB7012E77000201 => refused 21 1 7\n\
-        0 | 00050DB7012E77000201D0 => refused 23 0 5\n\
-        0 | 00050CB7012E76000201D0 => refused 23 0 5\n\
-        0 | 00050CB7012E77000201D1 => refused 23 1 9\n";
-    hold::<Maps>(&rt, rt.alloc(), cases);
-    Ok(())
+    let cases = "
+        # The map of one pair, cut at each byte, and with one bit of a byte turned.
+        map 0 | - | refused 21 0 0
+        map 0 | 00 | refused 21 0 0
+        map 0 | 0005 | refused 21 0 0
+        map 0 | 00050C | refused 21 0 0
+        map 0 | 00050CB7 | refused 21 0 0
+        map 0 | 00050CB701 | refused 21 0 0
+        map 0 | 00050CB7012E | refused 21 0 0
+        map 0 | 00050CB7012E77 | refused 21 1 7
+        map 0 | 00050CB7012E7700 | refused 21 1 7
+        map 0 | 00050CB7012E770002 | refused 21 1 7
+        map 0 | 00050CB7012E77000201 | refused 21 1 7
+        map 0 | 00050DB7012E77000201D0 | refused 23 0 5
+        map 0 | 00050CB7012E76000201D0 | refused 23 0 5
+        map 0 | 00050CB7012E77000201D1 | refused 23 1 9";
+    hold::<MapCases>(rt.alloc(), cases)
 }
 
 /// Where the frame of a handle stands: frames of 16 bytes up to handle 255, and of 17 from 256 on, the first at 183.
@@ -146,14 +123,6 @@ fn fill_map(writer: &mut PageWriter, count: u64, sink: &mut MemSink) -> Option<b
     Some(writer.end(sink).is_ok())
 }
 
-/// Writes that map by a writer of its own.
-fn write_map(alloc: Global, count: u64, sink: &mut MemSink) -> Option<bool>
-    requires { count < 2_000 }
-{
-    let mut writer = PageWriter::new(alloc).ok()?;
-    fill_map(&mut writer, count, sink)
-}
-
 /// A sink with room for so many bytes, which takes them in pieces.
 pub(crate) fn sink(alloc: Global, room: usize) -> Option<MemSink> {
     MemSink::new(alloc, room, 1_000, Items::new(alloc)).ok()
@@ -176,56 +145,34 @@ pub(crate) fn long_map(alloc: Global) -> Option<Vec<u8>> {
     map_by(alloc, &mut writer)
 }
 
-/// `PLACE COUNT => LENGTH BYTES`: how many bytes that map has, and so many of them from a place on.
-struct Filled;
-
-/// Adds how many bytes a map has, and so many of them from a place on.
-fn report_piece(reported: &mut String, map: &[u8], place: u16, count: u16) -> Option<()> {
-    reported::number(reported, map.len() as u64)?;
-    let after = map.get(usize::from(place)..)?;
-    reported::bytes(reported, after.get(..usize::from(count))?)
-}
-
-impl Reporting for Filled {
-    fn report(alloc: Global, reported: &mut String, input: &str) -> Option<()> {
-        let (place, count) = input.split_once(" ")?;
-        report_piece(reported, &long_map(alloc)?, small(place)?, small(count)?)
-    }
+/// `piece PLACE COUNT`: how many bytes that map has, and so many of them from the place on.
+fn case_piece(line: &mut Line<'_>, report: &mut Report) -> Option<()> {
+    let [place, count, ..] = line.numbers()?;
+    let map = long_map(line.alloc)?;
+    let after = map.get(place.min(10_000) as usize..)?;
+    report.number(map.len() as u64);
+    report.bytes(after.get(..count.min(10_000) as usize)?);
+    Some(())
 }
 
 #[test]
 fn pages_are_filled(rt: HostRuntime) -> Result<(), Fail> {
     map_writing_laws();
-    // The sizes and the check words of both pages, and the page that ends the map.
-    let cases = "\
-        0 2 => 2216 07EF\n\
-        2031 4 => 2216 F31900B1\n\
-        2210 6 => 2216 1206000201D0\n";
-    hold::<Filled>(&rt, rt.alloc(), cases);
-    Ok(())
+    let cases = "
+        # The sizes and the check words of both pages, and the page that ends the map.
+        piece 0 2 | 2216 :07EF
+        piece 2031 4 | 2216 :F31900B1
+        piece 2210 6 | 2216 :1206000201D0";
+    hold::<MapCases>(rt.alloc(), cases)
 }
 
-/// `PLACE | PAIRS NEXT`: how many pairs the page at a place of that map has, and the place after it.
-struct Pages;
-
-/// Adds how many pairs a page has, and the place after it.
-fn report_page(reported: &mut String, page: &Page) -> Option<()> {
-    reported::number(reported, page.pairs.as_slice().len() as u64)?;
-    reported::number(reported, page.next)
-}
-
-/// Adds what is read of the page at a place.
-fn report_page_at(alloc: Global, reported: &mut String, bytes: &[u8], place: u64) -> Option<()> {
-    match read_page(alloc, bytes, place, 0) {
-        Ok(page) => report_page(reported, &page),
-        Err(_) => None,
-    }
-}
-
-impl Reporting for Pages {
-    fn report(alloc: Global, reported: &mut String, input: &str) -> Option<()> {
-        report_page_at(alloc, reported, &long_map(alloc)?, number(input)?)
-    }
+/// `page PLACE`: how many pairs the page at the place of that map has, and the place after it.
+fn case_page(line: &mut Line<'_>, report: &mut Report) -> Option<()> {
+    let [place, ..] = line.numbers()?;
+    let page = read_page(line.alloc, &long_map(line.alloc)?, place, 0).ok()?;
+    report.number(page.pairs.as_slice().len() as u64);
+    report.number(page.next);
+    Some(())
 }
 
 /// How many pairs there are, if each is that of the frame of its handle.
@@ -249,120 +196,76 @@ fn pairs_of_long_map(alloc: Global) -> Option<usize> {
 
 #[test]
 fn pages_that_were_filled_are_read(rt: HostRuntime) -> Result<(), Fail> {
-    let alloc = rt.alloc();
-    let cases = "\
-        0 => 1014 2033\n\
-        2033 => 86 2212\n\
-        2212 => 0 2216\n";
-    hold::<Pages>(&rt, rt.alloc(), cases);
-    assert_eq!(rt; pairs_of_long_map(alloc), Some(1_100));
-    Ok(())
+    assert_eq!(rt; pairs_of_long_map(rt.alloc()), Some(1_100));
+    let cases = "
+        page 0 | 1014 2033
+        page 2033 | 86 2212
+        page 2212 | 0 2216";
+    hold::<MapCases>(rt.alloc(), cases)
 }
 
-/// `ROOM => LENGTH`: how many bytes of that map a sink takes that has not room for all.
-struct Rooms;
-
-/// Fills a sink with that map. None where it takes all.
-fn fill(alloc: Global, sink: &mut MemSink) -> Option<()> {
-    if write_map(alloc, 1_100, sink)? {
-        None
-    } else {
-        Some(())
-    }
-}
-
-impl Reporting for Rooms {
-    fn report(alloc: Global, reported: &mut String, input: &str) -> Option<()> {
-        let mut sink = sink(alloc, usize::from(small(input)?))?;
-        fill(alloc, &mut sink)?;
-        reported::number(reported, sink.bytes().len() as u64)
-    }
-}
-
-#[test]
-fn a_map_that_is_not_taken_whole_is_a_fault(rt: HostRuntime) -> Result<(), Fail> {
-    let cases = "\
-        0 => 0\n\
-        1 => 1\n\
-        2032 => 2032\n\
-        2033 => 2033\n\
-        2215 => 2215\n";
-    hold::<Rooms>(&rt, rt.alloc(), cases);
-    Ok(())
-}
-
-/// `ROOM => LENGTH SAME BYTES`: how many bytes of that map a sink of so much room takes; whether the same writer, restarted, writes
-/// that map; and what it writes, restarted after its end, where it is ended without a pair.
-struct Restarts;
-
-/// Adds whether a writer that was given no pair yet writes that map.
-fn report_same(alloc: Global, reported: &mut String, writer: &mut PageWriter) -> Option<()>
-    requires { writer.old ≡ FRESH }
-{
-    reported::same(reported, &map_by(alloc, writer)?, &long_map(alloc)?)
-}
-
-/// Adds what a writer that was given no pair yet writes where it is ended at once.
-fn report_end(alloc: Global, reported: &mut String, writer: &mut PageWriter) -> Option<()>
+/// Reports what a writer that was given no pair yet writes where it is ended at once.
+fn report_end(alloc: Global, writer: &mut PageWriter, report: &mut Report) -> Option<()>
     requires { writer.old ≡ FRESH }
 {
     let mut sink = sink(alloc, 5)?;
     writer.end(&mut sink).ok()?;
-    reported::bytes(reported, sink.bytes())
+    report.bytes(sink.bytes());
+    Some(())
 }
 
-/// Adds how many bytes of that map a sink of so much room takes of a writer that was given no pair yet.
+/// Reports how many bytes of that map a sink of so much room takes of a writer that was given no pair yet, and whether that is all.
 fn report_taken(
     alloc: Global,
-    reported: &mut String,
     writer: &mut PageWriter,
-    room: u16,
+    room: u64,
+    report: &mut Report,
 ) -> Option<()>
     requires { writer.old ≡ FRESH }
 {
-    let mut short = sink(alloc, usize::from(room))?;
-    fill_map(writer, 1_100, &mut short)?;
-    reported::number(reported, short.bytes().len() as u64)
+    let mut short = sink(alloc, room.min(10_000) as usize)?;
+    let whole = fill_map(writer, 1_100, &mut short)?;
+    report.number(short.bytes().len() as u64);
+    report.truth(whole);
+    Some(())
 }
 
-/// Adds all that of a writer that was given no pair yet.
+/// Reports all that `restart` says of a writer that was given no pair yet.
 fn report_restarts(
     alloc: Global,
-    reported: &mut String,
     writer: &mut PageWriter,
-    room: u16,
+    room: u64,
+    report: &mut Report,
 ) -> Option<()>
     requires { writer.old ≡ FRESH }
 {
-    report_taken(alloc, reported, writer, room)?;
+    report_taken(alloc, writer, room, report)?;
     writer.restart();
-    report_same(alloc, reported, writer)?;
+    report.truth(map_by(alloc, writer)?.as_slice() == long_map(alloc)?.as_slice());
     writer.restart();
-    report_end(alloc, reported, writer)
+    report_end(alloc, writer, report)
 }
 
-impl Reporting for Restarts {
-    fn report(alloc: Global, reported: &mut String, input: &str) -> Option<()> {
-        let mut writer = PageWriter::new(alloc).ok()?;
-        report_restarts(alloc, reported, &mut writer, small(input)?)
-    }
+/// `restart ROOM`: how many bytes of that map a sink of so much room takes, and whether that is all; whether the same writer, restarted,
+/// writes that map; and what it writes, restarted after its end, where it is ended without a pair.
+fn case_restart(line: &mut Line<'_>, report: &mut Report) -> Option<()> {
+    let [room, ..] = line.numbers()?;
+    let mut writer = PageWriter::new(line.alloc).ok()?;
+    report_restarts(line.alloc, &mut writer, room, report)
 }
 
 #[test]
 fn a_writer_begins_anew_after_a_fault_and_after_its_end(rt: HostRuntime) -> Result<(), Fail> {
-    let cases = "\
-        0 => 0 same 000201D0\n\
-        2032 => 2032 same 000201D0\n\
-        2033 => 2033 same 000201D0\n\
-        2215 => 2215 same 000201D0\n\
-        4000 => 2216 same 000201D0\n";
-    hold::<Restarts>(&rt, rt.alloc(), cases);
-    Ok(())
+    let cases = "
+        # A map that isn't taken whole is a fault.
+        restart 0 | 0 no yes :000201D0
+        restart 1 | 1 no yes :000201D0
+        restart 2032 | 2032 no yes :000201D0
+        restart 2033 | 2033 no yes :000201D0
+        restart 2215 | 2215 no yes :000201D0
+        restart 4000 | 2216 yes yes :000201D0";
+    hold::<MapCases>(rt.alloc(), cases)
 }
-
-/// `PLACE | BYTES => SIZE RIGHT PAIRS`: what recovery reads of the page at a place: its size, whether its check word is right, and its
-/// pairs; or `none`.
-struct Damaged;
 
 /// The pairs that recovery reads of a page at a place.
 fn pairs_past_faults(alloc: Global, bytes: &[u8], place: u64) -> Option<Items<Pair>>
@@ -371,42 +274,59 @@ fn pairs_past_faults(alloc: Global, bytes: &[u8], place: u64) -> Option<Items<Pa
     page_pairs(alloc, bytes, place).ok()
 }
 
-/// Adds what recovery reads of the page at a place.
-fn report_damaged(alloc: Global, reported: &mut String, bytes: &[u8], place: u64) -> Option<()> {
+/// Reports what recovery reads of the page at a place.
+fn report_damaged(alloc: Global, bytes: &[u8], place: u64, report: &mut Report) -> Option<()> {
     let Some(size) = page_size(bytes, place) else {
-        return reported::word(reported, "none");
+        report.word("none");
+        return Some(());
     };
     let right = page_holds(bytes, place);
     let pairs = pairs_past_faults(alloc, bytes, place)?;
-    reported::number(reported, u64::from(size))?;
-    reported::word(reported, if right { "right" } else { "wrong" })?;
-    report_pairs(reported, pairs.as_slice())
+    report.number(u64::from(size));
+    report.word(if right { "right" } else { "wrong" });
+    report_pairs(pairs.as_slice(), report);
+    Some(())
 }
 
-impl Reporting for Damaged {
-    fn report(alloc: Global, reported: &mut String, input: &str) -> Option<()> {
-        let (place, bytes) = placed(alloc, input)?;
-        report_damaged(alloc, reported, &bytes, place)
+/// `damaged PLACE | BYTES`: what recovery reads of the page at the place: its size, whether its check word is right, and its pairs; or
+/// `none`.
+fn case_damaged(line: &mut Line<'_>, report: &mut Report) -> Option<()> {
+    let [place, ..] = line.numbers()?;
+    report_damaged(line.alloc, &line.bytes(1)?, place, report)
+}
+
+/// What is tried is told at the functions.
+struct MapCases;
+
+impl Case for MapCases {
+    fn report(line: &mut Line<'_>, report: &mut Report) -> Option<()> {
+        match line.name() {
+            "map" => case_map(line, report),
+            "piece" => case_piece(line, report),
+            "page" => case_page(line, report),
+            "restart" => case_restart(line, report),
+            "damaged" => case_damaged(line, report),
+            _ => None,
+        }
     }
 }
 
 #[test]
 fn pages_are_read_past_their_faults(rt: HostRuntime) -> Result<(), Fail> {
     page_laws();
-    // A right page; a wrong check word; a handle that is repeated; the null handle; a second place before the begin of the file; the page
-    // that ends the map; a size of 1; a page that is cut by a byte; a place past the end.
-    let cases = "\
-        0 | 0005 0CB701 2E77 000201D0 => 5 right C:183\n\
-        0 | 0005 0CB701 2E76 => 5 wrong C:183\n\
-        0 | 0007 0CB7010010 C2A7 => 7 right C:183 C:199\n\
-        0 | 0005 00B701 2DB7 => 5 right 0:183\n\
-        0 | 0008 0CB70101C841 4AB7 => 8 right C:183\n\
-        0 | 000201D0 => 2 right -\n\
-        0 | 000101D0 => none\n\
-        0 | 0005 0CB701 2E => none\n\
-        18446744073709551615 | 0005 0CB701 2E77 000201D0 => none\n";
-    hold::<Damaged>(&rt, rt.alloc(), cases);
-    Ok(())
+    let cases = "
+        # A right page; a wrong check word; a handle that is repeated; the null handle; a second place before the begin of the file; the
+        # page that ends the map; a size of 1; a page that is cut by a byte; a place past the end.
+        damaged 0 | 0005 0CB701 2E77 000201D0 | 5 right xC 183
+        damaged 0 | 0005 0CB701 2E76 | 5 wrong xC 183
+        damaged 0 | 0007 0CB7010010 C2A7 | 7 right xC 183 xC 199
+        damaged 0 | 0005 00B701 2DB7 | 5 right 0 183
+        damaged 0 | 0008 0CB70101C841 4AB7 | 8 right xC 183
+        damaged 0 | 000201D0 | 2 right
+        damaged 0 | 000101D0 | none
+        damaged 0 | 0005 0CB701 2E | none
+        damaged 18446744073709551615 | 0005 0CB701 2E77 000201D0 | none";
+    hold::<MapCases>(rt.alloc(), cases)
 }
 
 /// The length of the map of three pairs.
@@ -416,8 +336,7 @@ fn length_of_three() -> Option<u64> {
 }
 
 #[test]
-fn the_length_of_a_map_is_known_before_it_is_written(rt: HostRuntime) -> Result<(), Fail> {
+fn the_length_of_a_map_is_known_before_it_is_written(rt: HostRuntime) {
     assert_eq!(rt; map_length(&[]), 4);
     assert_eq!(rt; length_of_three(), Some(17));
-    Ok(())
 }

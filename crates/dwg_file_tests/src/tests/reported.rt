@@ -1,102 +1,55 @@
-//! What things are, in a few words, each after a blank.
+//! What objects are, in a few words.
 
-use dwg_base::{Fault, Refusal};
 use dwg_codes::Point3;
 use dwg_kinds::name_of;
 use dwg_object::{Body, Object};
+use dwg_testkit::Report;
 
-/// Adds a word.
-pub(crate) fn word(reported: &mut String, word: &str) -> Option<()> {
-    write!(reported, " {word}").ok()
+/// Reports a point by the words of its coordinates.
+fn point(report: &mut Report, point: Point3) {
+    report.hexes(&[point.x, point.y, point.z]);
 }
 
-/// Adds a number in decimal digits.
-pub(crate) fn number(reported: &mut String, number: u64) -> Option<()> {
-    write!(reported, " {number}").ok()
-}
-
-/// Adds a number in hexadecimal digits.
-pub(crate) fn hexadecimal(reported: &mut String, number: u64) -> Option<()> {
-    write!(reported, " {number:X}").ok()
-}
-
-/// Adds bytes by their hexadecimal digits; `-` where there are none.
-pub(crate) fn bytes(reported: &mut String, bytes: &[u8]) -> Option<()> {
-    word(reported, if bytes.is_empty() { "-" } else { "" })?;
-    for byte in bytes {
-        write!(reported, "{byte:02X}").ok()?;
-    }
-    Some(())
-}
-
-/// Adds whether two runs of bytes are the same.
-pub(crate) fn same(reported: &mut String, one: &[u8], other: &[u8]) -> Option<()> {
-    word(reported, if one == other { "same" } else { "other" })
-}
-
-/// Adds a refusal: its line, its index and its place.
-pub(crate) fn refusal(reported: &mut String, refusal: Refusal) -> Option<()> {
-    word(reported, "refused")?;
-    number(reported, u64::from(refusal.line))?;
-    number(reported, refusal.index)?;
-    number(reported, refusal.place)
-}
-
-/// Adds a fault that is a refusal.
-pub(crate) fn fault(reported: &mut String, fault: Fault) -> Option<()> {
-    match fault {
-        Fault::Refused(found) => refusal(reported, found),
-        Fault::NoMemory => None,
-    }
-}
-
-/// Adds a point by the words of its coordinates.
-fn point(reported: &mut String, point: Point3) -> Option<()> {
-    hexadecimal(reported, point.x)?;
-    hexadecimal(reported, point.y)?;
-    hexadecimal(reported, point.z)
-}
-
-/// Adds the ends of a line, and nothing for any other body.
-fn ends(reported: &mut String, body: &Body) -> Option<()> {
+/// Reports the ends of a line, and nothing of any other body.
+fn ends(report: &mut Report, body: &Body) {
     match body {
         Body::Line(line) => {
-            point(reported, line.start)?;
-            point(reported, line.end)
+            point(report, line.start);
+            point(report, line.end);
         }
-        _ => Some(()),
+        _ => {}
     }
 }
 
-/// Adds the form in which an object was read: `typed`, with the ends of a line; `plain` with how many bits it has of its own, and how many references after those
-/// of its common part; or `raw` with how many bytes its body has.
-fn form(reported: &mut String, object: &Object<'_>) -> Option<()> {
+/// Reports the form in which an object was read: `typed`, with the ends of a line; `plain` with how many bits it has of its own, and how
+/// many references after those of its common part; or `raw` with how many bytes its body has.
+fn form(report: &mut Report, object: &Object<'_>) {
     match object {
         Object::Typed(typed) => {
-            word(reported, "typed")?;
-            ends(reported, &typed.body)
+            report.word("typed");
+            ends(report, &typed.body);
         }
         Object::Plain(plain) => {
-            word(reported, "plain")?;
-            number(reported, plain.rest.length())?;
-            number(reported, plain.refs.as_slice().len() as u64)
+            report.word("plain");
+            report.number(plain.rest.length());
+            report.number(plain.refs.as_slice().len() as u64);
         }
         Object::Raw(raw) => {
-            word(reported, "raw")?;
-            number(reported, raw.bytes.as_slice().len() as u64)
+            report.word("raw");
+            report.number(raw.bytes.as_slice().len() as u64);
         }
     }
 }
 
-/// Adds an object: its own handle in hexadecimal digits, the name of its kind, and its form.
-pub(crate) fn object(reported: &mut String, object: &Object<'_>) -> Option<()> {
-    hexadecimal(reported, object.handle().value())?;
-    word(reported, name_of(object.kind()))?;
-    form(reported, object)
+/// Reports an object: its own handle, the name of its kind, and its form.
+pub(crate) fn object(report: &mut Report, object: &Object<'_>) {
+    report.hex(object.handle().value());
+    report.word(name_of(object.kind()));
+    form(report, object);
 }
 
-/// Adds an object after the type number in its head.
-pub(crate) fn numbered_object(reported: &mut String, object: &Object<'_>) -> Option<()> {
-    number(reported, u64::from(object.number()))?;
-    self::object(reported, object)
+/// Reports an object after the type number in its head.
+pub(crate) fn numbered_object(report: &mut Report, object: &Object<'_>) {
+    report.number(u64::from(object.number()));
+    self::object(report, object);
 }

@@ -1,12 +1,15 @@
 //! The bit size of an object of AC1014.
 
-use crate::tests::common::own;
-use crate::tests::reported;
-use crate::tests::table::{Reporting, hold};
+use dwg_base::Handle;
 use dwg_bits::BitCursor;
 use dwg_common::read_size;
-use dwg_testkit::Bits;
-use std::alloc::Global;
+use dwg_testkit::{Case, Line, Report, hold};
+use std::test::Fail;
+
+/// The handle of the object.
+fn own() -> Option<Handle> {
+    Handle::new(0x80)
+}
 
 /// At which bit reading begins.
 const FROM: u64 = 3;
@@ -26,88 +29,71 @@ fn is_unread(bytes: &[u8], end: u64, entity: bool) -> Option<bool> {
     Some(size.is_none() && cursor.at() == FROM)
 }
 
-/// Adds the least end before which a size is read, or the cursor moves; `none` where there is none up to `count`.
-fn report_least(reported: &mut String, bytes: &[u8], count: u64, entity: bool) -> Option<()> {
+/// Reports the least end before which a size is read, or the cursor moves; `none` where there is none up to `count`.
+fn report_least(report: &mut Report, bytes: &[u8], count: u64, entity: bool) -> Option<()> {
     for end in FROM..=count {
         if !is_unread(bytes, end, entity)? {
-            return reported::number(reported, end);
+            report.number(end);
+            return Some(());
         }
     }
-    reported::word(reported, "none")
+    report.word("none");
+    Some(())
 }
 
-/// Adds what is read of the bits before `count`: the size in hexadecimal digits, and the place after it.
-fn put_size(reported: &mut String, bytes: &[u8], count: u64, entity: bool) -> Option<()> {
+/// Reports what is read of the bits before `count`: the size, and the place after it.
+fn report_size(report: &mut Report, bytes: &[u8], count: u64, entity: bool) -> Option<()> {
     let mut cursor = cursor_to(bytes, count)?;
     match read_size(&mut cursor, entity, own()?) {
-        Some(size) => reported::hexadecimal(reported, u64::from(size))?,
-        None => reported::word(reported, "none")?,
+        Some(size) => report.hex(u64::from(size)),
+        None => report.word("none"),
     }
-    reported::number(reported, cursor.at())
+    report.number(cursor.at());
+    Some(())
 }
 
-/// Adds what is read of the bits of a text, and of how many of them.
-fn report_sizes(alloc: Global, reported: &mut String, input: &str, entity: bool) -> Option<()> {
-    let mut bits = Bits::new(alloc);
-    bits.push_text(input)?;
-    let count = bits.length() as u64;
-    let bytes = bits.to_bytes(alloc)?;
-    put_size(reported, &bytes, count, entity)?;
-    report_least(reported, &bytes, count, entity)
-}
+/// `entity | BITS`: the bit size of the entity 80 that is read of these bits from bit 3 on; the place after it; and how many of the bits are
+/// enough: of fewer nothing is read, and the cursor stays where it was. `object | BITS`: of another object, which has no picture.
+struct SizeCases;
 
-/// `BITS => SIZE PLACE LEAST`: the bit size of the entity 80 that is read of these bits from bit 3 on, and the place after it. LEAST is how
-/// many of the bits are enough: of fewer nothing is read, and the cursor stays where it was.
-struct Entities;
-
-impl Reporting for Entities {
-    fn report(alloc: Global, reported: &mut String, input: &str) -> Option<()> {
-        report_sizes(alloc, reported, input, true)
-    }
-}
-
-/// The same of another object, which has no picture.
-struct Objects;
-
-impl Reporting for Objects {
-    fn report(alloc: Global, reported: &mut String, input: &str) -> Option<()> {
-        report_sizes(alloc, reported, input, false)
+impl Case for SizeCases {
+    fn report(line: &mut Line<'_>, report: &mut Report) -> Option<()> {
+        let bits = line.bits(1)?;
+        let count = bits.length() as u64;
+        let bytes = bits.to_bytes(line.alloc)?;
+        let entity = line.name() == "entity";
+        report_size(report, &bytes, count, entity)?;
+        report_least(report, &bytes, count, entity)
     }
 }
 
 /// After nothing, once with other bits after it; after items; after a picture, and one of no bytes; after both. Items and a picture that
 /// aren't there, and items whose application is no reference.
 #[test]
-fn the_bit_size_of_an_entity_is_read(rt: HostRuntime) {
-    hold::<Entities>(
-        &rt,
-        rt.alloc(),
-        "\
-        '110 '10 '0 01020304 => 4030201 38 38\n\
-        '110 '10 '0 01020304 '10101 FFFF => 4030201 38 38\n\
-        '110 '01 02 5.12 AABB '10 '0 01020304 => 4030201 80 80\n\
-        '110 '10 '1 02000000 7778 01020304 => 4030201 86 86\n\
-        '110 '10 '1 00000000 00000000 => 0 70 70\n\
-        '110 '01 01 5.12 AA '00 0200 8.0 BBCC '10 '1 01000000 77 FFFFFFFF => FFFFFFFF 154 154\n\
-        '110 '01 02 5.12 AABB '01 FF C.1 01020304 => none 3 none\n\
-        '110 '10 '1 FFFFFFFF 01020304 => none 3 none\n\
-        '110 '01 02 7.12 AABB '10 '0 01020304 => none 3 none\n\
-        '110 '01 02 C.81 AABB '10 '0 01020304 => none 3 none\n",
-    );
+fn the_bit_size_of_an_entity_is_read(rt: HostRuntime) -> Result<(), Fail> {
+    let cases = "
+        entity | '110 '10 '0 01020304 | x4030201 38 38
+        entity | '110 '10 '0 01020304 '10101 FFFF | x4030201 38 38
+        entity | '110 '01 02 5.12 AABB '10 '0 01020304 | x4030201 80 80
+        entity | '110 '10 '1 02000000 7778 01020304 | x4030201 86 86
+        entity | '110 '10 '1 00000000 00000000 | 0 70 70
+        entity | '110 '01 01 5.12 AA '00 0200 8.0 BBCC '10 '1 01000000 77 FFFFFFFF | xFFFFFFFF 154 154
+        entity | '110 '01 02 5.12 AABB '01 FF C.1 01020304 | none 3 none
+        entity | '110 '10 '1 FFFFFFFF 01020304 | none 3 none
+        entity | '110 '01 02 7.12 AABB '10 '0 01020304 | none 3 none
+        entity | '110 '01 02 C.81 AABB '10 '0 01020304 | none 3 none";
+    hold::<SizeCases>(rt.alloc(), cases)
 }
 
 /// After nothing, and after items; where an entity would have a picture, the size stands at once; an item that isn't there, and one whose
 /// application is no reference.
 #[test]
-fn the_bit_size_of_another_object_is_read(rt: HostRuntime) {
-    hold::<Objects>(
-        &rt,
-        rt.alloc(),
-        "\
-        '110 '10 01020304 => 4030201 37 37\n\
-        '110 '01 02 5.12 AABB '01 01 4.0 CC '10 01020304 => 4030201 105 105\n\
-        '110 '10 '1 02000000 7778 01020304 => 81 37 37\n\
-        '110 '01 06 5.12 AABB 01020304 => none 3 none\n\
-        '110 '01 02 9.12 AABB '10 01020304 => none 3 none\n",
-    );
+fn the_bit_size_of_another_object_is_read(rt: HostRuntime) -> Result<(), Fail> {
+    let cases = "
+        object | '110 '10 01020304 | x4030201 37 37
+        object | '110 '01 02 5.12 AABB '01 01 4.0 CC '10 01020304 | x4030201 105 105
+        object | '110 '10 '1 02000000 7778 01020304 | x81 37 37
+        object | '110 '01 06 5.12 AABB 01020304 | none 3 none
+        object | '110 '01 02 9.12 AABB '10 01020304 | none 3 none";
+    hold::<SizeCases>(rt.alloc(), cases)
 }
