@@ -58,7 +58,9 @@ install: build
 	@for place in $(places); do if [ -d "$$place" ] && [ ! -L "$$place" ]; then echo "$$place is a folder" >&2; exit 1; fi; done
 	install -d $(bin) $(lib)/tools/dwgtools $(man)/man1 $(man)/man7 $(completions)
 	rm -f $(lib)/COMMIT
-	{ [ -e .git ] && unset GIT_DIR GIT_WORK_TREE GIT_COMMON_DIR GIT_INDEX_FILE && git describe --always --dirty=' and changes' --exclude='*' --abbrev=40 2>/dev/null || echo; } > $(lib)/COMMIT
+	{ [ -e .git ] && unset GIT_DIR GIT_WORK_TREE GIT_COMMON_DIR GIT_INDEX_FILE && export GIT_OPTIONAL_LOCKS=0 && \
+	    commit=$$(git describe --always --exclude='*' --abbrev=40 2>/dev/null) && changes=$$(git status --porcelain --untracked-files=no 2>/dev/null) && \
+	    echo "$$commit$${changes:+ and changes}" || echo; } > $(lib)/COMMIT
 	chmod 644 $(lib)/COMMIT
 	install -m 755 $(call quoted,$(value PROGRAM)) $(bin)/dwg
 	$(way); ln -sfn "$$from_lib/bin/dwg" $(lib)/dwg

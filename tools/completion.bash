@@ -16,16 +16,17 @@ _dwg_tool() {
     COMPREPLY=()
     if [[ $word == -* ]]; then
         mapfile -t COMPREPLY < <(compgen -W "$("$1" --help 2>/dev/null | grep -oE -- '--[a-z][a-z0-9-]*' | sort -u)" -- "$word")
-    elif [[ $before == --program || $before == --resume || $before == --before || $before == --output || $before == --preview || $before == -o ]]; then
+    elif [[ $before == --program || $before == --resume || $before == --fixity || $before == --before || $before == --output || $before == --preview || $before == -o ]]; then
         mapfile -t COMPREPLY < <(compgen -f -- "$word")
     elif [[ $before == --tree ]]; then
         mapfile -t COMPREPLY < <(compgen -d -- "$word")
     elif [[ $before == --whole ]]; then
         mapfile -t COMPREPLY < <(compgen -W $'skip\ncopy' -- "$word")
-    elif [[ $before == --print0 ]]; then
+    elif [[ $before == --print0 || $before == --only ]]; then
         mapfile -t COMPREPLY < <(compgen -W $'sound\nunsound\ndamaged\nchanged\nfailed\nunreadable' -- "$word")
     elif [[ $before != --jobs && $before != --width && $before != --background && $before != --block && $before != --space && $before != --ignore &&
-        $before != --texts && $before != --picture ]]; then
+        $before != --texts && $before != --picture && $before != --ext && $before != --exclude && $before != --codepage && $before != --window &&
+        ! ($before == --layers && $1 == *dwg-picture) ]]; then
         mapfile -t COMPREPLY < <(
             compgen -d -- "$word"
             compgen -f -X '!*.[dD][wW][gG]' -- "$word"

@@ -10,6 +10,7 @@ import sys
 from typing import Any, NoReturn, Sequence, Tuple
 
 from . import TOP
+from .encodings import named_page
 from .outputs import output
 from .statuses import Exit, Status, ToolError
 from .streams import hush_where_named, own_name
@@ -35,6 +36,11 @@ class Parser(argparse.ArgumentParser):
 
         self._unwritten = Status.WRITE_FAULT if any(number == Status.WRITE_FAULT for number, _ in statuses) else Exit.FAILURE
 
+    def add_codepage(self) -> None:
+        """Lets the code page of texts be named."""
+        told = "read texts by this code page, a number as in headers or a name as cp1251, and not by the header's, which may be lost"
+        self.add_argument("--codepage", type=_page, metavar="N", help=told)
+
     def print_help(self, _: Any = None) -> None:
         """Prints the help; where that can't be, ToolError with the status that the tool has for any output. (argparse would say nothing)"""
         self.say(self.format_help())
@@ -52,6 +58,13 @@ class Parser(argparse.ArgumentParser):
         with contextlib.suppress(OSError):
             self.print_usage(sys.stderr)
         raise ToolError(message, Exit.USAGE)
+
+
+def _page(word: str) -> str:
+    try:
+        return named_page(word)
+    except ValueError as fault:
+        raise argparse.ArgumentTypeError(str(fault)) from None
 
 
 class _Version(argparse.Action):
@@ -72,9 +85,16 @@ def commit() -> str:
         return noted.readline().strip()
     if not os.path.exists(os.path.join(TOP, ".git")):
         return ""
-    words = ["git", "-C", TOP, "describe", "--always", "--dirty= and changes", "--exclude=*", "--abbrev=40"]
-    environment = {name: value for name, value in os.environ.items() if not name.startswith("GIT_")}
     with contextlib.suppress(OSError, subprocess.SubprocessError):
-        ran = subprocess.run(words, stdin=subprocess.DEVNULL, stdout=subprocess.PIPE, stderr=subprocess.DEVNULL, env=environment, timeout=20, check=True)
-        return ran.stdout.decode("ascii", "replace").strip()
+        changes = " and changes" if _git("status", "--porcelain", "--untracked-files=no") else ""
+        return _git("describe", "--always", "--exclude=*", "--abbrev=40") + changes
     return ""
+
+
+def _git(*words: str) -> str:
+    """What git says of the checkout, of which it writes nothing: `describe --dirty` and `diff` write its index, whatever they are told."""
+    environment = {name: value for name, value in os.environ.items() if not name.startswith("GIT_")}
+    environment["GIT_OPTIONAL_LOCKS"] = "0"
+    said = ["git", "-C", TOP, *words]
+    ran = subprocess.run(said, stdin=subprocess.DEVNULL, stdout=subprocess.PIPE, stderr=subprocess.DEVNULL, env=environment, timeout=20, check=True)
+    return ran.stdout.decode("ascii", "replace").strip()

@@ -81,7 +81,7 @@ class Grid(NamedTuple):
     across: Point = (0.0, 0.0)
     up: Point = (0.0, 0.0)
 
-    def count(self) -> int:
+    def copies(self) -> int:
         """How often it stands."""
         return self.columns * self.rows
 
@@ -112,7 +112,8 @@ class Copies:
 
 @dataclass
 class Insert:
-    """An insert: its block, the pen of its layer, and its own; whether it is on layer 0 of a block, and on one that is off; where it puts its block."""
+    """An insert: its block, the pen of its layer, and its own; whether it is on layer 0 of a block, and on one of which nothing is drawn; where it
+    puts its block."""
 
     block: int
     layer: Pen

@@ -11,8 +11,9 @@ from itertools import accumulate, chain
 from typing import Any, Callable, Dict, Iterable, Iterator, List, Mapping, Optional, Sequence, Tuple
 
 from .drawings import Drawing
-from .encodings import code_page, decoded
+from .encodings import decoded
 from .escapes import one_line
+from .json_values import texts
 from .pieces import Course, pass_same
 from .show import Class, Object, Prefix
 from .values import BadText, Bytes, Reference, Text, Value, Words, number, read_field, read_value
@@ -65,7 +66,7 @@ class Side:
         if isinstance(value, Reference):
             said = {"code": value.code, "handle": f"{value.handle:X}"}
             name = self.name(value.handle)
-            return said if name is None else {**said, "name": name}
+            return said if name is None else {**said, **texts("name", name)}
         if isinstance(value, Words):
             said_words = [number(word) for word in value]
             return said_words[0] if len(said_words) == 1 else said_words
@@ -228,7 +229,7 @@ class Comparison:
     def differences(self) -> Iterator[Difference]:
         """All that differs, while both drawings are shown."""
         with self.old.drawing.text() as (prefix, text):
-            self.old.page = code_page(prefix.codepage)
+            self.old.page = prefix.page
             try:
                 yield from self.beside(prefix, Course(text, prefix.count, OfOld))
             except OfOld as why:
@@ -237,7 +238,7 @@ class Comparison:
     def beside(self, old_prefix: Prefix, old: Course) -> Iterator[Difference]:
         """All that differs, while the new drawing is shown beside the old one."""
         with self.new.drawing.text() as (prefix, text):
-            self.new.page = code_page(prefix.codepage)
+            self.new.page = prefix.page
             yield from self.prefixes(old_prefix, prefix)
             yield from self.objects(old, Course(text, prefix.count))
 
@@ -315,17 +316,17 @@ def partners(numbers: Sequence[int], others: Sequence[int]) -> Iterator[Tuple[in
     """Each place with that of its partner in the other list, by number: the first of a number belongs to the first, the second to the second."""
     # (counted and put in order in arrays: a list for each number would take ten times as much)
     counts = array("I", bytes(4 * (NUMBERS + 1)))
-    for number in others:
-        counts[number + 1] += 1
+    for other in others:
+        counts[other + 1] += 1
     begins = array("I", accumulate(counts))
     ends, places = array("I", begins), array("I", bytes(4 * len(others)))
-    for place, number in enumerate(others):
-        places[ends[number]] = place
-        ends[number] += 1
-    for place, number in enumerate(numbers):
-        if begins[number] < ends[number]:
-            yield place, places[begins[number]]
-            begins[number] += 1
+    for place, other in enumerate(others):
+        places[ends[other]] = place
+        ends[other] += 1
+    for place, one in enumerate(numbers):
+        if begins[one] < ends[one]:
+            yield place, places[begins[one]]
+            begins[one] += 1
         else:
             yield place, None
 

@@ -9,9 +9,10 @@ from typing import IO, Iterator, Optional, Tuple
 
 from .inputs import CHANGED, open_input, state_of
 from .names import Names
-from .pieces import names_in, objects_in
+from .pieces import Taker, names_in, objects_in
 from .program import NoTemporary, Program
 from .show import PIECE, Lists, Object, Prefix, read_prefix
+from .spools import Keeper
 from .statuses import Exit, Status, ToolError
 from .streams import input_name
 from .temporary import TemporaryFull, temporary_told
@@ -25,25 +26,51 @@ class Told(ToolError):
 class Drawing:
     """A drawing that can be shown more than once: a file, or what comes by a pipe, kept in a file without a name meanwhile."""
 
-    def __init__(self, program: Program, path: Optional[str], file: Optional[IO[bytes]] = None) -> None:
-        self.program = program
+    def __init__(self, program: Program, path: Optional[str], file: Optional[IO[bytes]] = None, page: Optional[str] = None) -> None:
+        # (the code page by which texts are read, where it isn't that of the header)
+        self.program, self.page = program, page
         self.name = input_name(path)
         self.file = open_input(path) if file is None else file
         self._state = state_of(self.file)
 
     @contextlib.contextmanager
-    def show(self, lists: Lists = Lists.TEXT) -> Iterator[Tuple[Prefix, Iterator[Object]]]:
-        """What the text of `show` says before the objects, and these, one by one; ToolError with the program's status where it refuses."""
+    def show(self, lists: Lists = Lists.TEXT, is_taken: Optional[Taker] = None) -> Iterator[Tuple[Prefix, Iterator[Object]]]:
+        """What the text of `show` says before the objects, and these, one by one, but for those that are taken by their heads; ToolError with the
+        program's status where it refuses."""
         with self.text() as (prefix, text):
-            yield prefix, objects_in(text, prefix.count, lists)
+            yield prefix, objects_in(text, prefix.count, lists, is_taken)
 
     @contextlib.contextmanager
     def text(self) -> Iterator[Tuple[Prefix, IO[bytes]]]:
         """What the text of `show` says before the objects, and the text of these as it comes; ToolError with the program's status where it refuses."""
+        with self._told():
+            os.lseek(self.file.fileno(), 0, os.SEEK_SET)
+            yield from self._shown()
+
+    @contextlib.contextmanager
+    def named_text(self) -> Iterator[Tuple[Prefix, Names, IO[bytes]]]:
+        """As `text`, once the names of layers, styles, linetypes, applications and blocks are known. The drawing is shown once, where its text finds a
+        place, and else once more."""
+        with contextlib.closing(Keeper()) as keeper:
+            with self.text() as (prefix, text):
+                names = names_in(keeper.of(text), prefix.count)
+            kept = keeper.kept()
+            if kept is None:
+                with self.text() as (prefix, text):
+                    yield prefix, names, text
+                return
+            with self._told():
+                try:
+                    yield prefix, names, kept
+                except BadText as bad:
+                    raise ToolError(f"the text of `show` isn't as it should be: {bad}", Exit.FAILURE) from None
+
+    @contextlib.contextmanager
+    def _told(self) -> Iterator[None]:
+        """Has each fault be told with the name of the drawing."""
         with temporary_told():
             try:
-                os.lseek(self.file.fileno(), 0, os.SEEK_SET)
-                yield from self._shown()
+                yield
             except (NoTemporary, TemporaryFull, Told):
                 raise
             except ToolError as fault:
@@ -58,7 +85,9 @@ class Drawing:
             first = text.readline()
             if first:
                 try:
-                    yield read_prefix(itertools.chain([first], text)), text
+                    prefix = read_prefix(itertools.chain([first], text))
+                    prefix.read_by = self.page
+                    yield prefix, text
                 except BadText as fault:
                     bad = fault
             while text.read(PIECE):

@@ -1,8 +1,9 @@
-"""The code pages of drawings, and texts by them."""
+"""The code pages of drawings, texts by them, and the letters that AutoCAD escapes in texts whose code page doesn't have them."""
 
 from __future__ import annotations
 
-from typing import Dict
+import re
+from typing import Dict, Optional
 
 # What the number of a code page in the header means, of those that Python knows. Any other number is read as 30 is.
 CODE_PAGES: Dict[int, str] = {
@@ -20,6 +21,42 @@ def code_page(number: int) -> str:
     return CODE_PAGES.get(number, "cp1252")
 
 
+def named_page(word: str) -> str:
+    """Python's name of the code page that a word of the command line names, by its number in headers or as the tools call it; ValueError for another."""
+    page = CODE_PAGES.get(int(word), "") if re.fullmatch("[0-9]{1,2}", word) else word.lower()
+    if page not in CODE_PAGES.values():
+        raise ValueError(f"{word!r} is no code page: name one by its number in a header, as 29, or as cp1251")
+    return page
+
+
 def decoded(text: bytes, page: str) -> str:
     """A text by its code page; a byte that the page doesn't have becomes a lone surrogate, DC80 to DCFF."""
     return text.decode(page, "surrogateescape")
+
+
+# Letters by what is written for them: `\U+` and four digits of UTF-16, any number of times, or `\M+`, a digit for a code page and its two bytes.
+ESCAPES = r"(?:\\U\+[0-9A-F]{4})+|\\M\+[1-5][0-9A-F]{4}"
+_ESCAPES = re.compile(ESCAPES, re.IGNORECASE)
+# The code pages of `\M+`: Shift-JIS, Big5, Wansung, Johab, GB.
+_ESCAPED_PAGES = {"1": "cp932", "2": "cp950", "3": "cp949", "4": "johab", "5": "gbk"}
+_UNIT = len("\\U+0000")
+
+
+def letters_of(escapes: str, instead: Optional[str] = None) -> str:
+    """The letters that escapes stand for. Where one stands for none, as half of a letter or bytes that the code page doesn't have, it stays, or what is
+    given stands instead."""
+    if escapes[1] in "Mm":
+        letter = bytes.fromhex(escapes[4:]).decode(_ESCAPED_PAGES[escapes[3]], "replace")
+        return letter if len(letter) == 1 and letter != "\ufffd" else escapes if instead is None else instead
+    said, at = [], 0
+    # (two halves of one letter that stand side by side are that letter)
+    for letter in bytes.fromhex(escapes[3:].replace("\\U+", "").replace("\\u+", "")).decode("utf-16-be", "surrogatepass"):
+        written = escapes[at : at + _UNIT] if instead is None else instead
+        said.append(written if "\ud800" <= letter <= "\udfff" else letter)
+        at += 2 * _UNIT if letter > "\uffff" else _UNIT
+    return "".join(said)
+
+
+def unescaped(text: str) -> str:
+    """A text with the letters that are escaped in it."""
+    return _ESCAPES.sub(lambda found: letters_of(found[0]), text) if "\\" in text else text

@@ -5,7 +5,7 @@ from __future__ import annotations
 from dataclasses import dataclass, field
 from typing import Iterator, List, Optional, Sequence, Tuple
 
-from .program import Program, ProgramFailed
+from .program import Program, ProgramFailed, at_once
 from .statuses import Status
 from .versions import MOST_HEADER, OURS
 
@@ -13,7 +13,7 @@ from .versions import MOST_HEADER, OURS
 def version_of_rest(program: Program, prefix: bytes) -> Optional[str]:
     """The version that a file header is of by all but its first six bytes, where these are others: its check word is right with one alone."""
     for version in OURS:
-        status = program.run(["sections"], version + prefix[6:MOST_HEADER]).status if version != prefix[:6] else Status.REFUSED
+        status = program.run(["sections"], version + prefix[6:MOST_HEADER], patience=at_once()).status if version != prefix[:6] else Status.REFUSED
         if status == Status.DONE:
             return version.decode()
         if status != Status.REFUSED:

@@ -11,8 +11,12 @@ import struct
 from sys import intern
 from typing import Dict, List, Tuple
 
-from .json_values import Speaker, put
-from .values import BYTES, BadText, read_value
+from . import show
+from .json_values import UNESCAPED, Speaker, put, texts
+from .values import BYTES, BadText, Text, read_value
+
+# How much text an object has of which the lists are told element by element: the values of all take ten times as much.
+LONG = 1 << 14
 
 # How many lines are kept for a while; and how many names of fields the plans have that are kept.
 MOST_LINES, MOST_NAMES = 1 << 13, 1 << 16
@@ -52,33 +56,38 @@ class Fragments:
         self._plans: Dict[Tuple[str, ...], str] = {}
         self._planned = 0
 
-    def object(self, part: str) -> str:
+    def of_bytes(self, part: bytes) -> str:
         """An object in JSON, by its text without the first word and the last line end."""
+        if len(part) >= min(LONG, show.MOST_TEXT) or not part.isascii():
+            raise Odd
         before = self.speaker.undecoded
         try:
-            return self._object(part)
+            return self._object(part.decode("ascii"))
         except (Odd, BadText, ValueError):
             self.speaker.undecoded = before
             raise Odd from None
 
     def _object(self, part: str) -> str:
         head, *lines = part.split("\n")
+        said, is_layer = self.begin(head, lines)
+        if not lines:
+            return said + "}"
+        get = self._fields[is_layer].get
+        names, values = zip(*[get(line) or self.field(line, is_layer) for line in lines])
+        plan = self._plans.get(names) or self.plan(names)
+        return f"{said}, {plan % values}"
+
+    def begin(self, head: str, lines: List[str]) -> Tuple[str, bool]:
+        """What an object begins with, and whether it is a layer; the lines of a face are told apart."""
         begin = _HEAD.fullmatch(head)
         if not begin:
             raise Odd
         handle, kind, form, type_number = begin.groups()
-        said = f'{{"object": "{handle}", "kind": "{kind}", "form": "{form}", "type": {type_number}'
-        if not lines:
-            return said + "}"
         if kind == "3DFACE":
             _tell_apart(lines)
-        is_layer = kind == "LAYER"
-        get = self._fields[is_layer].get
-        names, values = zip(*[get(line) or self._field(line, is_layer) for line in lines])
-        plan = self._plans.get(names) or self._plan(names)
-        return f"{said}, {plan % values}"
+        return f'{{"object": "{handle}", "kind": "{kind}", "form": "{form}", "type": {type_number}', kind == "LAYER"
 
-    def _field(self, line: str, is_layer: bool) -> Field:
+    def field(self, line: str, is_layer: bool) -> Field:
         """The field of a line, which is kept where it is short and its text is decoded whole."""
         found, before = _FIELD.fullmatch(line), self.speaker.undecoded
         if not found:
@@ -95,27 +104,33 @@ class Fragments:
 
     def _value(self, name: str, printed: str, is_colour: bool) -> str:
         """A value in JSON."""
-        if printed[1:2] == "." and not name.endswith(_BYTES):
+        if printed[1:2] == "." and not is_of_bytes(name):
             reference = _REFERENCE.fullmatch(printed)
             if reference:
-                return self._reference(*reference.groups())
+                return self.reference(*reference.groups())
         value = read_value(name.encode("ascii"), printed.encode("ascii"))
+        if isinstance(value, Text):
+            return self._texts(name, self.speaker.text(value))
         return self._encode(self.speaker.colour(value) if is_colour else self.speaker.value(value))
 
-    def _reference(self, code: str, handle: str) -> str:
+    def _texts(self, name: str, said: str) -> str:
+        """A text, and after it the member that it has beside it, where it has one."""
+        return self._encode(texts(name[name.rfind(".") + 1 :], said))[len(self._encode(name[name.rfind(".") + 1 :])) + 3 : -1]
+
+    def reference(self, code: str, handle: str) -> str:
         """A reference, with the name of where it leads."""
         target = int(handle, 16)
         name = self.speaker.names.get(target)
-        named = "" if name is None else f', "name": {self._encode(self.speaker.text(name))}'
+        named = "" if name is None else f', {self._encode(texts("name", self.speaker.text(name)))[1:-1]}'
         return f'{{"code": {int(code, 16)}, "handle": "{target:X}"{named}}}'
 
-    def _plan(self, names: Tuple[str, ...]) -> str:
+    def plan(self, names: Tuple[str, ...]) -> str:
         """The members that fields make, with a place for each value in turn, and the end of the object."""
         tree: Dict[str, object] = {}
         for at, name in enumerate(names):
             put(tree, name, f"@{at}")
         between = _PLACE.split(self._encode(tree)[1:])
-        if between[1::2] != [str(at) for at in range(len(names))] or any(name in tree for name in FIRST):
+        if between[1::2] != [str(at) for at in range(len(names))] or any(name in tree for name in FIRST) or any(name.endswith(UNESCAPED) for name in names):
             raise Odd
         self._planned += len(names)
         if self._planned > MOST_NAMES:
@@ -125,11 +140,16 @@ class Fragments:
         return plan
 
 
+def is_of_bytes(name: str) -> bool:
+    """Whether a field may have bytes, whose digits can look like a number."""
+    return name.endswith(_BYTES)
+
+
 def _said_words(name: str, words: str) -> str:
     """A number or a point; nothing where one is infinite or no number, or these are bytes."""
     unpack, form = _WORDS[len(words)]
     said = form % unpack(bytes.fromhex(words))
-    return "" if "n" in said or name.endswith(_BYTES) else said
+    return "" if "n" in said or is_of_bytes(name) else said
 
 
 def _tell_apart(lines: List[str]) -> None:

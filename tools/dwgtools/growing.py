@@ -11,7 +11,8 @@ import stat
 import sys
 import threading
 from dataclasses import replace
-from typing import IO, Callable, Iterator, List, Optional, Tuple
+from functools import partial
+from typing import IO, Callable, ContextManager, Iterator, List, Optional, Set, Tuple
 
 from . import verdicts
 from .crew import in_order
@@ -19,22 +20,22 @@ from .escapes import one_line
 from .inputs import from_begin, pieces_of
 from .jobs import most_at_once
 from .log import WHOLE, digest_of_program
-from .outputs import WholeFile, mask_of_modes
-from .pairs import Written, alone_beside, place_both
+from .outputs import Spot, WholeFile, mask_of_modes
+from .pairs import Written, alone_beside, place_alone, place_both
 from .program import Answer, Patience, Program, ProgramFailed, ready_program
 from .recovering import read_back, told_by
 from .rows import Row
 from .statuses import Exit, Status, ToolError
 from .streams import tell
 from .table import Progress
-from .tree_lines import Line, Made, TreeTable, line_of_row, parts_told
+from .tree_lines import Line, Made, TreeTable, line_of_row, losses_told
 from .tree_log import TreeLog
-from .trees import LOG_NAME, Planned, planned, refuse_folders
+from .trees import LOG_NAME, Planned, left_behind, opened_folder, planned, refuse_folders
 from .verdicts import Checker
-from .walking import Files
+from .walking import Files, nothing_found, walk_of
 
 # How many descriptors a recovery has open at the most.
-OPEN_BY_RECOVERY = 16
+OPEN_BY_RECOVERY = 18
 
 # How many folders have a lock of their own within this process.
 LOCKS = 64
@@ -80,15 +81,17 @@ def digest_of(file: IO[bytes]) -> str:
     return found.hexdigest()
 
 
-def digest_at(path: str, source: IO[bytes]) -> Optional[str]:
+def digest_at(spot: Spot, source: IO[bytes]) -> Optional[str]:
     """The SHA-256 of what stands where an output is to stand; None where nothing does, and Refused where that is no regular file, or the input."""
     try:
-        there = os.lstat(path)
+        there = spot.there(spot.name)
+        if there is None:
+            return None
         if not stat.S_ISREG(there.st_mode):
-            raise Refused(f"{path} is no regular file")
+            raise Refused(f"{spot.path} is no regular file")
         if os.path.samestat(there, os.fstat(source.fileno())):
-            raise Refused(f"{path} is the input itself")
-        handle = os.open(path, os.O_RDONLY | os.O_NONBLOCK | os.O_CLOEXEC | getattr(os, "O_NOFOLLOW", 0))
+            raise Refused(f"{spot.path} is the input itself")
+        handle = spot.opened()
     except (FileNotFoundError, NotADirectoryError):
         return None
     except OSError as fault:
@@ -107,9 +110,19 @@ class Grower:
         self.program, self.log, self.options = program, log, options
         self.door = Door()
         self._locks = [threading.Lock() for _ in range(LOCKS)]
+        # The folders whose lock another run kept as long as it is waited for.
+        self._kept: Set[str] = set()
 
     def grown(self, one: Planned) -> Line:
-        """The line of a file: whatever happens to it, there is one."""
+        """The line of a file: whatever happens to it, there is one. It tells what stands below OUT of another state of the file, so that nobody takes
+        that for this one."""
+        line, out = self.line_of(one), os.path.join(self.options.tree, one.name)
+        if not line.output and line.outcome != "refused" and os.path.lexists(out):
+            line.detail = "; ".join(filter(None, [line.detail, f"{out} is there from before"]))
+        return line
+
+    def line_of(self, one: Planned) -> Line:
+        """What became of a file."""
         if one.fault is not None:
             return line_of_row(Row(one.path, "unreadable", one.fault))
         if one.refusal is not None:
@@ -123,9 +136,18 @@ class Grower:
     @contextlib.contextmanager
     def alone(self, file: WholeFile) -> Iterator[None]:
         """Keeps others, in this process and elsewhere, from giving files beside this one their names meanwhile, and the end of the tool from coming."""
+        folder = os.path.dirname(file.path)
         # (threads of this process wait for each other as long as they must, and not by the lock of a file)
-        with self._locks[hash(os.path.dirname(file.path)) % LOCKS], alone_beside(file), self.door.through():
-            yield
+        with self._locks[hash(folder) % LOCKS], contextlib.ExitStack() as held:
+            try:
+                # Who waited in vain doesn't wait again for each file of the folder.
+                held.enter_context(alone_beside(file, folder not in self._kept))
+                self._kept.discard(folder)
+            except ToolError:
+                self._kept.add(folder)
+                raise
+            with self.door.through():
+                yield
 
 
 class Growing(Checker):
@@ -137,25 +159,22 @@ class Growing(Checker):
         self.out = os.path.join(grower.options.tree, one.name)
         self.notes = self.out + ".notes"
 
-    def checked(self, file: IO[bytes], row: Row) -> Row:
-        line = line_of_row(super().checked(file, row))
+    def found(self, file: IO[bytes], content: IO[bytes], row: Row) -> Row:
+        line = line_of_row(super().found(file, content, row))
         if line.verdict == "damaged":
-            self.told(self.recover, file, line)
+            self.told(lambda: self.recover(file, content, line), line)
         elif line.verdict in WHOLE and self.grower.options.whole == "copy":
-            self.told(self.copy, file, line)
+            self.told(lambda: self.copy(file, content, line), line)
         else:
             self.tree.add(line)
-        # (who takes the tree for what was read is told what isn't of this state of it)
-        if not line.output and line.outcome in (line.verdict, "nothing kept") and os.path.lexists(self.out):
-            line.detail = "; ".join(filter(None, [line.detail, f"{self.out} is there from before"]))
         return line
 
-    def told(self, write: Callable[[IO[bytes], Line], None], file: IO[bytes], line: Line) -> None:
+    def told(self, write: Callable[[], None], line: Line) -> None:
         """Writes below OUT, and has each fault be one of this file alone."""
         outcome, why, status = "failed", "", int(Exit.FAILURE)
         try:
             refuse_folders(self.grower.options.tree, self.one.name)
-            write(file, line)
+            write()
             return
         except Refused as fault:
             outcome, why, status = "refused", str(fault), Exit.EXISTS
@@ -185,27 +204,26 @@ class Growing(Checker):
         line.output = self.out
         if made.notes is not None:
             line.outcome = "recovered"
-            line.detail += f"; lost: {parts_told(made.parts)}" if made.parts else ""
+            line.detail += f"; lost: {losses_told(made)}" if made.parts else ""
 
-    def recover(self, file: IO[bytes], line: Line) -> None:
+    def recover(self, file: IO[bytes], content: IO[bytes], line: Line) -> None:
         """Writes what is whole of a damaged drawing, and its notes, unless that stands."""
         known = self.tree.recovered_of(line.sha256)
-        if known is not None and (known.kept or self.grower.options.even_empty) and (digest_at(self.out, file), digest_at(self.notes, file)) == (known.sha256, known.notes):
+        if known is not None and (known.kept or self.grower.options.even_empty) and (digest_at(Spot(self.out), file), digest_at(Spot(self.notes), file)) == (known.sha256, known.notes):
             self.stands(line, replace(known, output=self.one.name))
             return
-        refuse_folders(self.grower.options.tree, self.one.name, make=True)
-        with WholeFile(self.out) as whole, WholeFile(self.notes) as notes:
-            made = self.recovered(file, whole, notes)
+        with self.folder() as at, self.begun(file, self.out, at) as whole, self.begun(file, self.notes, at) as notes:
+            made = self.recovered(content, whole, notes)
             self.refuse_changed(file, line)
             if not made.kept and not self.grower.options.even_empty:
                 line.outcome, line.status = "nothing kept", int(Exit.NOTHING_KEPT)
                 return
             self.place(file, line, made, [(whole, made.sha256), (notes, made.notes or "")], lambda: self.place_pair(whole, notes))
 
-    def recovered(self, file: IO[bytes], whole: WholeFile, notes: WholeFile) -> Made:
+    def recovered(self, content: IO[bytes], whole: WholeFile, notes: WholeFile) -> Made:
         """Recovers a drawing into two files that have no name yet."""
         patience = Patience(verdicts.MOST_SECONDS, verdicts.MOST_TAKEN)
-        answer = self.program.run(["recover"], from_begin(file), whole.file, patience, notes=notes.file)
+        answer = self.program.run(["recover"], from_begin(content), whole.file, patience, notes=notes.file)
         refuse_answer(answer, self.out)
         told = told_by(answer, notes.file, self.one.path, self.out)
         if told.refusal is None:
@@ -215,35 +233,30 @@ class Growing(Checker):
         digests = digest_of(whole.file), digest_of(notes.file)
         return Made(self.one.name, *digests, told.kept, told.lost["object"], told.found, findings, parts)
 
-    def copy(self, file: IO[bytes], line: Line) -> None:
-        """Writes a whole drawing as it is, unless it stands."""
+    def copy(self, file: IO[bytes], content: IO[bytes], line: Line) -> None:
+        """Writes a whole drawing as it is, with its times, unless it stands."""
         assert line.sha256 is not None
         made = Made(self.one.name, line.sha256)
-        has_notes = self.has_own_notes(file)
-        if digest_at(self.out, file) == line.sha256 and not has_notes:
+        has_notes = self.has_own_notes(file, Spot(self.notes))
+        if digest_at(Spot(self.out), file) == line.sha256 and not has_notes:
             self.stands(line, made)
             return
-        refuse_folders(self.grower.options.tree, self.one.name, make=True)
-        with WholeFile(self.out) as whole:
-            self.write_copy(file, line, whole)
+        with self.folder() as at, self.begun(file, self.out, at) as whole:
+            for piece in pieces_of(content, line.bytes or 0):
+                whole.file.write(piece)
+            told = os.fstat(file.fileno())
+            whole.times = told.st_atime_ns, told.st_mtime_ns
+            self.refuse_changed(file, line)
             self.place(file, line, made, [(whole, line.sha256)], lambda: self.place_alone(file, whole))
 
-    def write_copy(self, file: IO[bytes], line: Line, whole: WholeFile) -> None:
-        """Copies a file into one that has no name yet."""
-        found = hashlib.sha256()
-        pieces = pieces_of(file, (line.bytes or 0) + 1)
-        while True:
-            try:
-                piece = next(pieces, b"")
-            except OSError as fault:
-                raise ToolError(f"read fault: {fault.strerror}", Status.READ_FAULT) from None
-            if not piece:
-                break
-            whole.file.write(piece)
-            found.update(piece)
-        self.refuse_changed(file, line)
-        if found.hexdigest() != line.sha256:
-            raise ToolError("it was changed while it was read", Status.READ_FAULT)
+    def folder(self) -> ContextManager[int]:
+        """The folder in which the outputs are to stand."""
+        return opened_folder(self.grower.options.tree, self.one)
+
+    @staticmethod
+    def begun(file: IO[bytes], path: str, folder: int) -> WholeFile:
+        """An output in a folder, no more open than the file that it is of. (Who runs the tool reads it, whoever the file is open to.)"""
+        return WholeFile(path, folder=folder, most=stat.S_IMODE(os.fstat(file.fileno()).st_mode) & 0o777 | stat.S_IRUSR)
 
     def refuse_changed(self, file: IO[bytes], line: Line) -> None:
         """Refuses a file whose state isn't the one that it had when it was checked."""
@@ -251,10 +264,10 @@ class Growing(Checker):
         if (now.st_size, now.st_mtime_ns) != (line.bytes, line.mtime_ns):
             raise ToolError("it was changed while it was read", Status.READ_FAULT)
 
-    def has_own_notes(self, file: IO[bytes]) -> bool:
+    def has_own_notes(self, file: IO[bytes], notes: Spot) -> bool:
         """Whether the notes of an earlier run stand where those of this file would."""
         try:
-            there = digest_at(self.notes, file)
+            there = digest_at(notes, file)
         except Refused:
             return False
         if there is None:
@@ -266,26 +279,29 @@ class Growing(Checker):
     def place(self, file: IO[bytes], line: Line, made: Made, files: List[Tuple[WholeFile, str]], place: Callable[[], None]) -> None:
         """Gives outputs of such contents their names, where what is there may be replaced. LOG has them before, so that it knows them again whatever
         ends the run."""
-        self.may_replace(file, files)
+        self.may_replace(file, made, files)
         for whole, _ in reversed(files):
             whole.finish()
         with self.grower.alone(files[0][0]):
-            self.may_replace(file, files)
+            self.may_replace(file, made, files)
             line.made = made
             self.tree.add(line)
             place()
             self.say(line, made)
 
-    def may_replace(self, file: IO[bytes], files: List[Tuple[WholeFile, str]]) -> None:
-        """Has outputs replace what is there, where that is of an earlier run and as it left it, or what is to be written; else Refused, unless forced."""
+    def may_replace(self, file: IO[bytes], made: Made, files: List[Tuple[WholeFile, str]]) -> None:
+        """Has outputs replace what is there, where that is of an earlier run and as it left it, or what is to be written; else Refused, unless forced.
+        What is whole, and perhaps the last that is, never gives way to what has losses."""
         for whole, digest in files:
-            there = digest_at(whole.path, file)
-            if there is None:
+            there, state = digest_at(whole, file), whole.there(whole.name)
+            if there is None or state is None:
                 continue
             name = self.one.name if whole.path == self.out else self.one.name + ".notes"
             if there != digest and not self.tree.is_own(name, there, self.one.path) and not self.grower.options.force:
                 raise Refused(f"{whole.path} is there already, and isn't what a run left there; --force replaces it")
-            if os.path.samestat(os.lstat(whole.path), self.tree.place):
+            if there != digest and self.tree.is_whole(name, there) and not made.is_whole and not self.grower.options.force:
+                raise Refused(f"{whole.path} is whole, and what is recovered isn't; --force replaces it")
+            if os.path.samestat(state, self.tree.place):
                 raise Refused(f"{whole.path} is the log")
             whole.force = True
 
@@ -300,10 +316,15 @@ class Growing(Checker):
             raise ToolError(f"{self.notes} can't be written: {fault.strerror}; {written}", Status.WRITE_FAULT) from None
 
     def place_alone(self, file: IO[bytes], whole: WholeFile) -> None:
-        """Gives a copy its name. Notes of what stood there before are gone before."""
-        if self.has_own_notes(file):
-            os.unlink(self.notes)
-        whole.place()
+        """Gives a copy its name, beside which no notes stand of what stood there before; a fault tells what is left behind."""
+        written, notes = Written(self.out), whole.spot(os.path.basename(self.notes))
+        notes.force = self.has_own_notes(file, notes)
+        try:
+            place_alone(whole, notes, written)
+        except OSError as fault:
+            if not str(written):
+                raise
+            raise ToolError(f"{self.out} can't be written: {fault.strerror}; {written}", Status.WRITE_FAULT) from None
 
 
 def refuse_answer(answer: Answer, out: str) -> None:
@@ -330,7 +351,7 @@ def grow_all(plan: List[Planned], grower: Grower, progress: Progress, options: a
     files = Files(plan)
     jobs = min(options.jobs, most_at_once(OPEN_BY_RECOVERY), len(plan))
     try:
-        with contextlib.closing(in_order(((lambda one=one: done(one)) for one in plan), jobs, files.is_ready, progress.show, grower.program.stop)) as rows:
+        with contextlib.closing(in_order((partial(done, one) for one in plan), jobs, files.is_ready, progress.show, grower.program.stop)) as rows:
             table = TreeTable(options.json)
             for row in rows:
                 progress.clear()
@@ -356,7 +377,7 @@ def recover_tree(options: argparse.Namespace) -> int:
     program = ready_program(options.program)
     made_by = digest_of_program(program.path)
     if not plan:
-        tell("nothing was found to recover; of folders only *.dwg is taken, and --all takes every file")
+        tell(nothing_found(walk_of(options), "recover"))
         return Exit.NOTHING_FOUND
     try:
         os.makedirs(options.tree, exist_ok=True)
@@ -369,6 +390,10 @@ def recover_tree(options: argparse.Namespace) -> int:
         table = grow_all(plan, Grower(program, log, options), progress, options)
     finally:
         log.close()
+    left = list(left_behind(plan, log.written(), options))
+    if left:
+        what = f"{len(left)} outputs stand whose files aren't" if len(left) > 1 else "an output stands whose file isn't"
+        tell(f"{what} there any more{', the first is' if len(left) > 1 else ':'} {one_line(left[0])}")
     if not options.quiet:
         said = ", ".join(f"{count} {outcome}" for outcome, count in sorted(table.counts.items(), key=lambda item: -item[1]))
         tell(f"{len(plan)} files: {said}")

@@ -54,6 +54,14 @@ def kept(file: IO[bytes], begin: bytes = b"") -> IO[bytes]:
     return found
 
 
+def private_file() -> IO[bytes]:
+    """A file without a name that nobody else can change, in memory where the system has such files, or else TemporaryFault."""
+    with contextlib.suppress(OSError, AttributeError):
+        return os.fdopen(os.memfd_create("dwg"), "w+b", buffering=0)
+    with of_temporary():
+        return tempfile.TemporaryFile(buffering=0)
+
+
 # What is said of an input whose state isn't the one that it had.
 CHANGED = "it was changed while it was read"
 

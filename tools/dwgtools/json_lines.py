@@ -1,23 +1,19 @@
-"""What a drawing says, as lines of JSON: by fragments of objects, or where that can't be, field by field."""
+"""What a drawing says, as lines of JSON: by layouts and fragments of objects, or where that can't be, field by field."""
 
 from __future__ import annotations
 
-import itertools
 import json
 import struct
-from typing import IO, Any, Dict, Iterable, Iterator, List, Tuple
+from typing import IO, Any, Dict, Iterable, List
 
-from . import show
 from .drawings import Drawing
-from .encodings import code_page
-from .fragments import Fragments, Odd
+from .fragments import LONG, Fragments, Odd
 from .json_values import Speaker
-from .pieces import BEGIN, Piece, lines_of, parts_of, pieces_of
+from .layouts import Layouts
+from .pieces import BEGIN, Piece, divided, lines_of, parts_of, pieces_of
 from .show import Object, further_objects, refuse_count, refuse_more
 from .workers import MOST_WORKERS, Workers
 
-# How much text an object has from which its lists are told element by element: the values of all take ten times as much.
-LONG = 1 << 14
 # How many objects a drawing has on which several processes work.
 MANY = 2_000
 
@@ -34,6 +30,7 @@ class Lines:
         self._encoder = json.JSONEncoder(allow_nan=False, **form)
         # (how far a member stands in is of its place, and in no fragment)
         self.fragments = None if pretty else Fragments(speaker)
+        self._layouts = self.fragments and Layouts(self.fragments)
         self._found = 0
 
     def line(self, said: Dict[str, Any]) -> None:
@@ -44,21 +41,24 @@ class Lines:
         """Writes the objects of a text of so many."""
         with Workers(self._worked, MOST_WORKERS if self.fragments and count >= MANY else 0) as workers:
             for piece in pieces_of(text):
-                done: Iterator[Tuple[Piece, bytes]] = workers.put(piece) if isinstance(piece, bytes) else itertools.chain(workers.rest(), [(piece, b"")])
-                for each, said in done:
-                    self._take(each, said, count)
+                for each, said in workers.put(piece) if isinstance(piece, bytes) else workers.rest():
+                    self._take(each, self._worked(each) if said is None else said, count)
+                if not isinstance(piece, bytes):
+                    self._take(piece, b"", count)
             for each, said in workers.rest():
                 self._take(each, said, count)
         refuse_count(self._found, count)
 
     def _worked(self, piece: bytes) -> bytes:
         """What a worker makes of a piece; nothing where it is to be looked at again."""
-        parts, before = parts_of(piece), self._speaker.undecoded
+        # (each line of them is looked at)
+        parts, before = divided(piece), self._speaker.undecoded
         try:
-            said = [self._said(part) for part in parts or ()]
+            said = self._layouts.objects(parts) if self._layouts and parts else ""
         except Odd:
-            return b""
-        return _COUNTS.pack(len(said), self._speaker.undecoded - before) + _joined(said) if said else b""
+            said = ""
+        undecoded, self._speaker.undecoded = self._speaker.undecoded - before, before
+        return _COUNTS.pack(len(parts), undecoded) + said.encode("ascii") if parts and said else b""
 
     def _take(self, piece: Piece, said: bytes, count: int) -> None:
         """Writes what a worker made of a piece, and what none did."""
@@ -74,12 +74,6 @@ class Lines:
         else:
             self._by_fragments(parts, count)
 
-    def _said(self, part: bytes) -> str:
-        """An object by its fragments."""
-        if self.fragments is None or len(part) >= min(LONG, show.MOST_TEXT) or not part.isascii():
-            raise Odd
-        return self.fragments.object(part.decode("ascii"))
-
     def _by_fragments(self, parts: List[bytes], count: int) -> None:
         """Writes objects by their fragments, and those of which that can't be by their fields; what is said so far is written before a fault."""
         said: List[str] = []
@@ -87,7 +81,9 @@ class Lines:
             for part in parts:
                 refuse_more(self._found, count)
                 try:
-                    said.append(self._said(part))
+                    if self.fragments is None:
+                        raise Odd
+                    said.append(self.fragments.of_bytes(part))
                     self._found += 1
                 except Odd:
                     self._out.write(_joined(said))
@@ -117,9 +113,8 @@ def _joined(said: List[str]) -> bytes:
 
 def write(drawing: Drawing, out: IO[bytes], pretty: bool) -> int:
     """Writes the lines of a drawing, and gives how many texts couldn't be decoded whole."""
-    names = drawing.names()
-    with drawing.text() as (prefix, text):
-        speaker = Speaker(names, code_page(prefix.codepage))
+    with drawing.named_text() as (prefix, names, text):
+        speaker = Speaker(names, prefix.page)
         lines = Lines(out, speaker, pretty)
         for line in speaker.prefix(prefix):
             lines.line(line)

@@ -5,7 +5,7 @@ from __future__ import annotations
 from dataclasses import dataclass
 from typing import Any, Callable, Dict, Iterator, List, Mapping, Union
 
-from .encodings import decoded
+from .encodings import decoded, unescaped
 from .show import Class, Object, Prefix
 from .values import BadText, Bytes, Reference, Text, Value, Words, number, read_field, read_value, steps
 
@@ -33,6 +33,16 @@ def member(place: Tree, step: Union[str, int], new: Any) -> Any:
             place.append(new)
         return place[step]
     raise BadText("a path that doesn't fit those before it")
+
+
+# What stands after the name of a text in that of the same text with the letters that are escaped in it.
+UNESCAPED = "_unescaped"
+
+
+def texts(name: str, said: str) -> Dict[str, str]:
+    """A text by its name, and beside it the same with the letters that are escaped in it, where any are."""
+    letters = unescaped(said)
+    return {name: said} if letters == said or name.endswith("]") else {name: said, name + UNESCAPED: letters}
 
 
 class Listed(List[Any]):
@@ -69,7 +79,7 @@ class Speaker:
         said: Dict[str, Any] = {"code": value.code, "handle": f"{value.handle:X}"}
         name = self.names.get(value.handle)
         if name is not None:
-            said["name"] = self.text(name)
+            said.update(texts("name", self.text(name)))
         return said
 
     def value(self, value: Value) -> Any:
@@ -92,7 +102,12 @@ class Speaker:
 
     def put(self, said: Dict[str, Any], one: Object, path: str, value: Value) -> None:
         """Puts a field to what is said of an object."""
-        put(said, path, self.colour(value) if path == "colour" and one.kind != "LAYER" else self.value(value))
+        self.put_value(said, path, self.colour(value) if path == "colour" and one.kind != "LAYER" else self.value(value), value)
+
+    def put_value(self, said: Dict[str, Any], path: str, told: Any, value: Value) -> None:
+        """Puts what is told of a value at its path, and beside a text what its escapes stand for."""
+        for name, each in texts(path, told).items() if isinstance(value, Text) else ((path, told),):
+            put(said, name, each)
 
     def object(self, one: Object) -> Dict[str, Any]:
         """An object of the drawing."""
@@ -128,18 +143,20 @@ class Speaker:
                 at, members = at + 1, {}
             if int(index) != at:
                 raise BadText("a path that doesn't fit those before it")
-            value = self.value(read_value(name + path, printed))
+            value = read_value(name + path, printed)
             if path:
-                put(members, path[1:].decode("ascii"), value)
+                self.put_value(members, path[1:].decode("ascii"), self.value(value), value)
             else:
-                yield value
+                yield self.value(value)
         if members:
             yield members
 
     def class_line(self, one: Class) -> Dict[str, Any]:
         """A class."""
-        said = {"class": one.number, "version": one.version, "proxy": one.proxy, "item": one.item}
-        return {**said, "app": self.text(one.app), "cpp": self.text(one.cpp), "dxf": self.text(one.dxf)}
+        said: Dict[str, Any] = {"class": one.number, "version": one.version, "proxy": one.proxy, "item": one.item}
+        for name, text in (("app", one.app), ("cpp", one.cpp), ("dxf", one.dxf)):
+            said.update(texts(name, self.text(text)))
+        return said
 
     def prefix(self, prefix: Prefix) -> Iterator[Dict[str, Any]]:
         """The header, the classes and the unknown sections."""

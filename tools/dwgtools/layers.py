@@ -8,6 +8,7 @@ from typing import Any, Dict, Iterator, Mapping, Optional, Tuple, Union
 
 from .colours import BY_BLOCK_WEIGHT, BY_LAYER_WEIGHT, WEIGHTS
 from .encodings import decoded
+from .names import LONGEST_NAME, type_name
 from .show import Object
 from .stock import OLDER, layer_of
 from .values import Text
@@ -58,8 +59,10 @@ class Layers:
             self.states[one.handle] = state_of(one, self.page, self.version)
 
     def count(self, one: Object, kind: str) -> None:
-        """Counts an entity of a kind."""
+        """Counts an entity of a kind. One whose name is too long to be told with each layer is told by its number."""
         layer = one.target("layer")
+        if len(kind) > LONGEST_NAME:
+            kind = type_name(one, {})
         if layer not in self.kinds:
             self.kinds[layer] = Counter()
         self.kinds[layer][kind] += 1

@@ -9,7 +9,7 @@ from functools import lru_cache
 from typing import Iterator, List
 from xml.sax.saxutils import escape
 
-from .encodings import decoded
+from .encodings import ESCAPES, decoded, letters_of
 from .escapes import DIRECTIONS
 from .plane import Affine, Point, Step, plain, seen, turned
 from .shapes import FILLED, Context, Fields, Figure, Frame, Undrawable, checked_map
@@ -31,17 +31,16 @@ def _signs(page: str) -> "re.Pattern[str]":
     """The signs in a text of a code page, of which cp864 has another letter for the byte of `%`; all of them begin as ASCII, and no second byte of a
     letter is that one."""
     percent = re.escape(b"%".decode(page))
-    return re.compile(rf"{percent}{percent}([0-9]{{3}}|[dcpuok{percent}])|((?:\\U\+[0-9A-F]{{4}})+)", re.IGNORECASE)
+    return re.compile(rf"{percent}{percent}([0-9]{{3}}|[dcpuok{percent}])|({ESCAPES})", re.IGNORECASE)
 
 
 def readable(text: bytes, page: str) -> str:
-    """A text as it is read: with the signs that `%%` and `\\U+` stand for, and a question mark in a box for what can't be shown."""
+    """A text as it is read: with the signs that `%%`, `\\U+` and `\\M+` stand for, and a question mark in a box for what can't be shown."""
 
     def sign(found: "re.Match[str]") -> str:
         code, letters = found.group(1), found.group(2)
         if letters:
-            # Two halves of one letter that stand side by side are that letter.
-            return bytes.fromhex(letters[3:].replace("\\U+", "").replace("\\u+", "")).decode("utf-16-be", "surrogatepass")
+            return letters_of(letters, "\ufffd")
         return bytes([int(code) & 255]).decode(page, "replace") if code.isdigit() else SIGNS.get(code.lower(), "%")
 
     return _UNSAID.sub("\ufffd", _signs(page).sub(sign, decoded(text, page)))

@@ -2,7 +2,9 @@
 
 from __future__ import annotations
 
+import collections
 import contextlib
+import errno
 import fcntl
 import hashlib
 import json
@@ -11,7 +13,7 @@ import re
 import stat
 import threading
 from dataclasses import asdict, dataclass, replace
-from typing import IO, Any, Callable, Dict, Iterator, List, Optional, Set, Tuple
+from typing import IO, Any, Callable, Dict, Iterable, Iterator, List, Optional, Set, Tuple
 
 from .arguments import commit
 from .escapes import one_line
@@ -27,6 +29,9 @@ from .versions import LIMIT
 from .walking import is_called_drawing
 
 Key = Tuple[str, int, int]
+
+# The detail of a file that isn't there: one that LOG knows is gone.
+GONE = os.strerror(errno.ENOENT)
 
 # What the first line of LOG is, and any that another program begins.
 HEAD = {"log": "dwg-check", "form": 1}
@@ -64,6 +69,42 @@ def absolute_name(path: str) -> str:
         return os.path.join(absolute_name(os.curdir), path)
     except (OSError, ValueError):
         return path
+
+
+def is_gone(path: str) -> bool:
+    """Whether nothing has a name, as the system says; one of which it says nothing isn't gone."""
+    try:
+        os.lstat(path)
+    except (FileNotFoundError, NotADirectoryError):
+        return True
+    except (OSError, ValueError):
+        return False
+    return False
+
+
+class Contents(Dict[str, Row]):
+    """What LOG has of the content of each file, by its whole name: the last one that it wasn't found to have changed to by itself."""
+
+    def take(self, absolute: str, row: Row) -> None:
+        """Takes a line of LOG."""
+        if row.verdict == "unreadable" and row.detail == GONE:
+            self.pop(absolute, None)
+        elif row.sha256 is not None and row.bytes is not None and row.verdict != "changed":
+            self[absolute] = row
+
+
+def content_of(row: Row) -> Tuple[Optional[str], Optional[int]]:
+    """What a file has: the SHA-256 and how many bytes."""
+    return row.sha256, row.bytes
+
+
+def is_among(name: str, tops: Set[str]) -> bool:
+    """Whether a whole name is one of these, or below one."""
+    while name not in tops:
+        name, below = os.path.dirname(name), name
+        if name == below:
+            return False
+    return True
 
 
 class NoLine(Exception):
@@ -145,7 +186,7 @@ def read_row(told: Dict[str, Any]) -> Tuple[str, Row]:
         raise NoLine
     if not all(told.get(name) is None or is_number(told[name], MOST.get(name, MOST_NUMBER), LEAST.get(name, 0)) for name in NUMBERS):
         raise NoLine
-    numbers = {name: told.get(name) for name in NUMBERS}
+    numbers: Dict[str, Any] = {name: told.get(name) for name in NUMBERS}
     if not is_possible(told["verdict"], numbers):
         raise NoLine
     row = Row(told["path"], told["verdict"], told["detail"], version=told["version"], refusal=read_refusal(told.get("refusal")), sha256=digest, **numbers)
@@ -224,6 +265,10 @@ class Log:
         self._current: Set[Key] = set()
         self._contents: Dict[str, Row] = {}
         self._unreadable: Set[Tuple[str, str]] = set()
+        # What LOG had when the run began; what was found under names that it didn't have, and which of its own weren't there, though they were named.
+        self._before = Contents()
+        self._new: List[Row] = []
+        self._missed: List[str] = []
         self._lock = threading.Lock()
         # (nothing before all is read)
         self._seen: Optional[Seen] = None
@@ -232,7 +277,7 @@ class Log:
         try:
             self._file = open_log(path)
             self.place = os.fstat(self._file.fileno())
-            self._refuse()
+            refuse_file(self._file, self.name, fcntl.LOCK_EX)
         except OSError as fault:
             raise ToolError(f"{self.name}: {fault.strerror}", Exit.FAILURE) from None
 
@@ -241,45 +286,14 @@ class Log:
         """Whether LOG is named by a link."""
         return os.path.islink(self._path)
 
-    def _refuse(self) -> None:
-        """Refuses a file that isn't LOG, and LOG that another run has."""
-        if not stat.S_ISREG(self.place.st_mode):
-            raise ToolError(f"{self.name} is no regular file", Exit.EXISTS)
-        try:
-            fcntl.flock(self._file, fcntl.LOCK_EX | fcntl.LOCK_NB)
-        except BlockingIOError:
-            raise ToolError(f"{self.name}: another run writes into it", Exit.EXISTS) from None
-        except OSError as fault:
-            tell(f"{self.name} can't be locked ({fault.strerror}); let no other run write into it")
-        first = self._file.readline(LONGEST)
-        try:
-            if first and (not first.endswith(b"\n") or maker_of_head(read_log_line(first)) is None):
-                raise NoLine
-        except NoLine:
-            raise ToolError(f"{self.name} is there, and doesn't begin as a log of this form does; name a file that isn't there", Exit.EXISTS) from None
-
     def begin(self, program: str) -> None:
         """Reads what LOG has, and writes a head where what comes is made by another program, or by other rules, than what is there."""
-        own, line = Maker(program, RULES), b"\n"
-        last: Optional[Maker] = None
-        damaged: List[int] = []
-        seen = Seen(self._file)
+        own, seen = Maker(program, RULES), Seen(self._file)
         self._file.seek(0)
-        for number, line in enumerate(lines_of_log(seen.readline), 1):
-            try:
-                told = read_log_line(line)
-                head = maker_of_head(told)
-                last = last if head is None else head
-                if head is None:
-                    self.take_line(told, last == own)
-            except NoLine:
-                damaged.append(number)
+        last, is_ended = take_lines(seen.readline, lambda told, maker: self.take_line(told, maker == own), self.name, self._tell)
         self._seen = seen
-        if damaged:
-            first = f"{len(damaged)} damaged lines are" if len(damaged) > 1 else "a damaged line is"
-            self._tell(f"{self.name}: {first} passed, the first is line {damaged[0]}")
         try:
-            if not line.endswith(b"\n"):
+            if not is_ended:
                 self._append(b"\n")
             if last != own:
                 self._append(json.dumps({**HEAD, **asdict(own), "tools": commit() or None}).encode("ascii") + b"\n")
@@ -292,10 +306,13 @@ class Log:
 
     def _take(self, absolute: str, row: Row, is_current: bool) -> None:
         """Knows a file again; what it is found to be counts only where this program found it, by these rules."""
+        self._before.take(absolute, row)
         if row.verdict == "unreadable":
             self._unreadable.add((absolute, row.detail))
         elif row.bytes is not None and row.mtime_ns is not None:
             key = (absolute, row.bytes, row.mtime_ns)
+            # (one that was gone is there again)
+            self._unreadable.discard((absolute, GONE))
             self._known[key] = row
             if row.sha256 and row.verdict != "changed":
                 self._first.setdefault(key, row.sha256)
@@ -316,21 +333,50 @@ class Log:
             key = (absolute_name(path), told.st_size, told.st_mtime_ns)
         except (OSError, ValueError):
             return None
-        row = self._known[key] if key in self._current else None
+        row = self._known[key] if key in self._current and (key[0], GONE) not in self._unreadable else None
         # One that was changed is looked at again: it may have been put right.
         return replace(row, path=path) if row and row.verdict != "changed" else None
+
+    def moved(self) -> List[str]:
+        """The whole names of files that aren't there any more, of each of which the content was found under a new name."""
+        left, found = collections.Counter(map(content_of, self._new)), []
+        for name in sorted(name for name, row in self._before.items() if left and content_of(row) in left):
+            content = content_of(self._before[name])
+            if left[content] and is_gone(name):
+                left[content] -= 1
+                found.append(name)
+        return found
+
+    def gone(self, words: Iterable[str]) -> List[str]:
+        """The whole names of files that aren't there any more, which the words named or which stand below these, in their order."""
+        tops = {*map(absolute_name, words), *self._missed}
+        # (many files stand in one folder)
+        folders = {folder for folder in {os.path.dirname(name) for name in self._before} if is_among(folder, tops)}
+        return sorted(name for name in self._before if (name in tops or os.path.dirname(name) in folders) and is_gone(name))
+
+    def forget(self, names: Iterable[str]) -> None:
+        """Has LOG have files no more."""
+        for name in names:
+            del self._before[name]
+            self.add_line(name, Row(name, "unreadable", GONE))
 
     def kept(self, row: Row) -> Row:
         """The line of a file that was looked at, kept in LOG: `changed` where its first content of this size and time was another."""
         if row.verdict == "failed" and not row.lasting:
             return row
         absolute = absolute_name(row.path)
+        if absolute not in self._before:
+            self._new.append(row)
+        elif row.verdict == "unreadable" and row.detail == GONE:
+            # (LOG forgets nothing by itself)
+            self._missed.append(absolute)
+            return row
         key = (absolute, row.bytes or 0, row.mtime_ns or 0)
         old = self._known.get(key)
         first = self._first.get(key, "" if old and old.verdict == "changed" else row.sha256)
         if old and row.sha256 and row.sha256 != first:
             row = replace(row, verdict="changed", detail=f"{row.verdict}: {row.detail}" if row.detail else row.verdict)
-        is_there = key in self._current and old is not None and old.sha256 == row.sha256
+        is_there = key in self._current and old is not None and old.sha256 == row.sha256 and (absolute, GONE) not in self._unreadable
         if not is_there and not (row.verdict == "unreadable" and (absolute, row.detail) in self._unreadable):
             self.add_line(absolute, row)
         return row
@@ -397,11 +443,30 @@ class Log:
             self._file.close()
 
 
-def open_log(path: str) -> IO[bytes]:
-    """Opens LOG to read it and to add to it. What isn't a regular file isn't opened."""
+def refuse_file(file: IO[bytes], name: str, lock: int) -> None:
+    """Refuses an open file that isn't LOG, and LOG that another run has, unless both only read it."""
+    if not stat.S_ISREG(os.fstat(file.fileno()).st_mode):
+        raise ToolError(f"{name} is no regular file", Exit.EXISTS)
+    try:
+        fcntl.flock(file, lock | fcntl.LOCK_NB)
+    except BlockingIOError:
+        raise ToolError(f"{name}: another run writes into it", Exit.EXISTS) from None
+    except OSError as fault:
+        tell(f"{name} can't be locked ({fault.strerror}); let no other run write into it")
+    first = file.readline(LONGEST)
+    try:
+        if first and (not first.endswith(b"\n") or maker_of_head(read_log_line(first)) is None):
+            raise NoLine
+    except NoLine:
+        raise ToolError(f"{name} is there, and doesn't begin as a log of this form does; name a file that isn't there", Exit.EXISTS) from None
+
+
+def open_log(path: str, is_only_read: bool = False) -> IO[bytes]:
+    """Opens LOG to read it, and else to add to it. What isn't a regular file isn't opened."""
     if os.path.exists(path) and not os.path.isfile(path):
         raise ToolError(f"{one_line(path)} is no regular file", Exit.EXISTS)
-    return os.fdopen(os.open(path, os.O_RDWR | os.O_APPEND | os.O_CREAT | os.O_NONBLOCK | os.O_CLOEXEC, 0o666), "r+b")
+    flags = os.O_RDONLY if is_only_read else os.O_RDWR | os.O_APPEND | os.O_CREAT
+    return os.fdopen(os.open(path, flags | os.O_NONBLOCK | os.O_CLOEXEC, 0o666), "rb" if is_only_read else "r+b")
 
 
 def lines_of_log(readline: Callable[[int], bytes]) -> Iterator[bytes]:
@@ -419,6 +484,29 @@ def lines_of_log(readline: Callable[[int], bytes]) -> Iterator[bytes]:
             if size > ENDLESS:
                 raise ToolError(f"LOG has a line of more than {ENDLESS} bytes; name another file", Exit.EXISTS)
         yield line
+
+
+def take_lines(
+    readline: Callable[[int], bytes], take: Callable[[Dict[str, Any], Optional[Maker]], None], name: str, tell_fault: Callable[[str], None]
+) -> Tuple[Optional[Maker], bool]:
+    """Hands on each line of LOG that is no head, with by what it was made; damaged ones are passed, which is told. By what the last lines are made,
+    and whether the very last is whole."""
+    last: Optional[Maker] = None
+    damaged: List[int] = []
+    line = b"\n"
+    for number, line in enumerate(lines_of_log(readline), 1):
+        try:
+            told = read_log_line(line)
+            head = maker_of_head(told)
+            last = last if head is None else head
+            if head is None:
+                take(told, last)
+        except NoLine:
+            damaged.append(number)
+    if damaged:
+        first = f"{len(damaged)} damaged lines are" if len(damaged) > 1 else "a damaged line is"
+        tell_fault(f"{name}: {first} passed, the first is line {damaged[0]}")
+    return last, line.endswith(b"\n")
 
 
 def digest_of_program(path: str) -> str:

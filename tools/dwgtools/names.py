@@ -6,7 +6,7 @@ import bisect
 from array import array
 from typing import Dict, Iterator, Mapping
 
-from .encodings import code_page, decoded
+from .encodings import decoded
 from .show import Object, Prefix
 from .values import BadText, Text
 
@@ -79,7 +79,7 @@ def type_name(one: Object, classes: Dict[int, str]) -> str:
 
 def class_names(prefix: Prefix) -> Dict[int, str]:
     """The DXF names of the classes, by number; the first class of a number counts."""
-    page = code_page(prefix.codepage)
+    page = prefix.page
     names: Dict[int, str] = {}
     for one in prefix.classes:
         names.setdefault(one.number, decoded(one.dxf, page))

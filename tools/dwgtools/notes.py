@@ -32,6 +32,8 @@ class Loss:
 
 # The sorts of losses.
 LOSSES = ("file header", "header variables", "classes", "section", "map page", "map end", "object")
+# Those by which it isn't known which objects there were.
+MAPPING = ("file header", "map page", "map end")
 
 
 @dataclass(frozen=True)

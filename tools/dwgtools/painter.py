@@ -6,12 +6,11 @@ import contextlib
 import shutil
 import tempfile
 from functools import lru_cache
-from itertools import chain
-from typing import IO, Callable, Dict, Iterable, Iterator, List, NamedTuple, Set, Tuple
+from typing import IO, Callable, Dict, Iterable, Iterator, List, NamedTuple, Optional, Set, Tuple
 
 from .blocks import Copies, Drawn, Insert, Item, Part, Pen, Run, Used
 from .escapes import one_line
-from .plane import SAME, Affine, Box, Endless, Point, plain
+from .plane import SAME, Affine, Box, Endless, Point, Step, plain
 from .shapes import Frame, Straight, Undrawable
 from .statuses import Exit, ToolError
 
@@ -51,7 +50,8 @@ class Room:
     def take(self, count: int) -> None:
         """Counts bytes; NoRoom where there are too many."""
         self.size += count
-        self.ask(0)
+        if self.size > self.most:
+            self.ask(0)
 
     def back(self, size: int) -> None:
         """Takes back all but so many."""
@@ -65,9 +65,8 @@ class Page:
     def __init__(self, file: IO[bytes]) -> None:
         self.file, self.size = file, 0
 
-    def write(self, said: str) -> None:
+    def write(self, told: bytes) -> None:
         """Writes a piece."""
-        told = said.encode("utf-8")
         self.file.write(told)
         self.size += len(told)
 
@@ -89,7 +88,15 @@ def size_of(pieces: Iterable[str]) -> int:
     return sum(len(said) if said.isascii() else len(said.encode("utf-8")) for said in pieces)
 
 
-END_OF_GROUP = "</g>\n"
+END_OF_GROUP = b"</g>\n"
+
+
+@lru_cache(maxsize=1 << 10)
+def between(before: Pen, after: Pen) -> Tuple[bytes, int]:
+    """What ends the group of a pen and begins that of another, and how many bytes are counted for that with its end; a pen without attributes doesn't
+    need one."""
+    begin = f"<g{after.attributes()}>\n".encode("ascii") if after.attributes() else b""
+    return (END_OF_GROUP if before.attributes() else b"") + begin, len(begin + END_OF_GROUP) if begin else 0
 
 
 class Sheet:
@@ -101,30 +108,30 @@ class Sheet:
 
     def put(self, pen: Pen, element: str, more: Iterable[str] = ()) -> None:
         """Takes an element, or the begin of one and what stands after that."""
-        if pen != self.pen:
-            self.end()
-            self.begin(pen)
-        for piece in chain([element], more, ["\n"]):
-            self.write(piece)
+        before = self.changed(pen) if pen != self.pen else b""
+        for piece in more:
+            self.write(element, before)
+            element, before = piece, b""
+        self.write(element + "\n", before)
 
-    def write(self, said: str) -> None:
-        """Counts a piece and writes it."""
-        self.room.take(size_of([said]))
-        self.page.write(said)
+    def write(self, said: str, before: bytes = b"") -> None:
+        """Counts a piece, and writes it after what was counted before."""
+        told = said.encode("utf-8")
+        self.room.take(len(told))
+        self.page.write(before + told)
 
-    def begin(self, pen: Pen) -> None:
-        """Begins a group, whose end is counted too; a pen without attributes doesn't need one."""
-        if pen.attributes():
-            self.room.take(len(END_OF_GROUP))
-            self.write(f"<g{pen.attributes()}>\n")
+    def changed(self, pen: Pen) -> bytes:
+        """What ends the open group and begins another, which is counted."""
+        told, count = between(self.pen, pen)
+        self.room.take(count)
         if isinstance(pen.width, int):
             self.widths.add(pen.width)
         self.pen = pen
+        return told
 
     def end(self) -> None:
         """Ends the open group."""
-        if self.pen.attributes():
-            self.page.write(END_OF_GROUP)
+        self.page.write(between(self.pen, Pen())[0])
         self.pen = Pen()
 
 
@@ -162,11 +169,12 @@ class Painter:
     """Draws parts on a sheet. A run is defined there before it is used first, and once for each map that changes the width of its lines.
 
     How many bytes copies have at the most is known before any is told. Once something was told in vain, that of definitions is looked for too.
+    Where a window is given, what lies outside is left out.
     """
 
-    def __init__(self, middle: Point, page: Page, room: Room) -> None:
+    def __init__(self, middle: Point, page: Page, room: Room, window: Optional[Box] = None) -> None:
         self.widths: Set[int] = set()
-        self.page, self.room = page, room
+        self.page, self.room, self.window = page, room, window
         self.frame, self.sheet, self.extent = Frame(*middle), Sheet(page, room, self.widths), Box()
         self.names: Dict[Defined, str] = {}
         # The sizes that were looked for, and definitions for which there was no room, nor will there ever be: what they need lessens by no more
@@ -199,12 +207,28 @@ class Painter:
     def draw(self, part: Part) -> None:
         """Draws a part of the picture, or keeps one that is endless until the whole picture is known."""
         if isinstance(part, Drawn) and isinstance(part.figure, Straight):
-            self.room.take(LONGEST_CUT)
-            self.endless.append((part.pen, part.figure.within(self.frame)))
-        else:
+            self.keep(part.pen, part.figure.within(self.frame))
+        elif (isinstance(part, Used) and self.window is None and part.is_within(self.extent, self.frame)) or self.take(part.around(self.frame)):
             self.put(part, self.sheet, self.frame)
-        if isinstance(part, Drawn) or not part.is_within(self.extent, self.frame):
-            self.extent.add(part.around(self.frame))
+
+    def keep(self, pen: Pen, line: Endless) -> None:
+        """Keeps a line without ends, unless it passes by the window."""
+        shown = [line.place] if self.window is None else line.cut(*self.window.corners())
+        if shown and self.take(shown):
+            self.room.take(LONGEST_CUT)
+            self.endless.append((pen, line))
+
+    def take(self, steps: Iterable[Step]) -> bool:
+        """Takes in what points and arcs extend over; False where that lies outside the window."""
+        if self.window is None:
+            self.extent.add(steps)
+            return True
+        box = Box()
+        box.add(steps)
+        if box.meets(self.window):
+            self.extent.add(box.corners())
+            return True
+        return False
 
     def put(self, part: Part, sheet: Sheet, frame: Frame) -> None:
         """Writes the element of a part."""
@@ -236,7 +260,7 @@ class Painter:
 
     def most_of_copies(self, copies: Copies) -> int:
         """How many bytes copies of figures have at the most: they differ by the two numbers of their place."""
-        count = copies.grid.count()
+        count = copies.grid.copies()
         if count == 1 and not self.room.vain:
             return 0
         return count * sum(size_of(item.figure.pieces(self.frame)) + 1 + 2 * LONGEST_NUMBER + LONGEST_GROUP for item in copies.items)
@@ -247,8 +271,8 @@ class Painter:
             # (its runs are always needed together, and there may be very many)
             return self.room.left + 1
         maps = [self.maps(run, insert.seat, self.frame) for run in runs]
-        groups = insert.grid.count() * len(runs) if len(runs) > 1 else 1
-        size = insert.grid.count() * sum(longest_use(turn) for _, turn in maps) + groups * LONGEST_GROUP
+        groups = insert.grid.copies() * len(runs) if len(runs) > 1 else 1
+        size = insert.grid.copies() * sum(longest_use(turn) for _, turn in maps) + groups * LONGEST_GROUP
         return size + (self.needed([(run, held) for run, (held, _) in zip(runs, maps)]) if self.room.vain else 0)
 
     def needed(self, first: List[Defined]) -> int:

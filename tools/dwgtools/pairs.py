@@ -11,7 +11,7 @@ from dataclasses import dataclass, field
 from typing import Iterator, List, Optional
 
 from .escapes import one_line
-from .outputs import WholeFile
+from .outputs import Spot, WholeFile
 from .program import MOST_WAITING
 from .signals import uninterrupted
 from .statuses import Exit, Status, ToolError
@@ -60,8 +60,9 @@ class Written:
 
 
 @contextlib.contextmanager
-def alone_beside(file: WholeFile) -> Iterator[None]:
-    """Keeps other runs from giving files of a folder their names meanwhile: one that comes waits for a while, and is refused then."""
+def alone_beside(file: WholeFile, is_patient: bool = True) -> Iterator[None]:
+    """Keeps other runs from giving files of a folder their names meanwhile: one that comes waits for a while, where it is patient, and is refused
+    then."""
     folder = os.path.dirname(file.path) or os.curdir
     try:
         handle = file.readable_folder()
@@ -70,21 +71,21 @@ def alone_beside(file: WholeFile) -> Iterator[None]:
         yield
         return
     try:
-        lock(handle, folder)
+        lock(handle, folder, is_patient)
         yield
     finally:
         os.close(handle)
 
 
-def lock(handle: int, folder: str) -> None:
+def lock(handle: int, folder: str, is_patient: bool) -> None:
     """Locks a folder that is open; where another run keeps it too long, ToolError, and where there are no locks that is told."""
-    end = time.monotonic() + MOST_WAITING
+    end = time.monotonic() + (MOST_WAITING if is_patient else 0)
     while True:
         try:
             fcntl.flock(handle, fcntl.LOCK_EX | fcntl.LOCK_NB)
             return
         except BlockingIOError:
-            if time.monotonic() > end:
+            if time.monotonic() >= end:
                 raise ToolError(f"{one_line(folder)} is locked by another run", Exit.EXISTS) from None
             time.sleep(0.02)
         except OSError as fault:
@@ -121,7 +122,19 @@ def place_both(whole: WholeFile, notes: WholeFile, written: Written) -> None:
         dropped(notes, old_notes)
 
 
-def is_taken_back(file: WholeFile, old: Optional[str], is_new: bool) -> bool:
+def place_alone(whole: WholeFile, notes: Spot, written: Written) -> None:
+    """Gives an output its name, and takes away before the notes that may be replaced; where that fails, what was there is as it was."""
+    with uninterrupted():
+        old_notes = moved_aside(notes)
+        try:
+            whole.place()
+        except BaseException:
+            written.left = [] if is_put_back(notes, old_notes) else left_aside(notes, old_notes)
+            raise
+        dropped(notes, old_notes)
+
+
+def is_taken_back(file: Spot, old: Optional[str], is_new: bool) -> bool:
     """Whether a new output has its name no more: the old one has it again, or nothing. Where the file system has no links it keeps it."""
     with contextlib.suppress(OSError):
         if old is not None:
@@ -133,7 +146,7 @@ def is_taken_back(file: WholeFile, old: Optional[str], is_new: bool) -> bool:
     return False
 
 
-def is_put_back(file: WholeFile, aside: Optional[str]) -> bool:
+def is_put_back(file: Spot, aside: Optional[str]) -> bool:
     """Whether what was moved aside has its name again, where anything was."""
     with contextlib.suppress(OSError):
         if aside is not None and not file.has(file.name):
@@ -142,14 +155,14 @@ def is_put_back(file: WholeFile, aside: Optional[str]) -> bool:
     return aside is None
 
 
-def left_aside(file: WholeFile, aside: Optional[str]) -> List[str]:
+def left_aside(file: Spot, aside: Optional[str]) -> List[str]:
     """What is said of a file that was kept aside and isn't put back, where there was one."""
     if aside is None:
         return []
     return [f"what was {one_line(file.path)} before is {f'in {one_line(file.beside(aside))}' if file.has(aside) else 'gone'}"]
 
 
-def moved_aside(file: WholeFile) -> Optional[str]:
+def moved_aside(file: Spot) -> Optional[str]:
     """Takes the file away that is to be replaced, and gives the name that it has then; None where there is none."""
     if file.replaced() is None:
         return None
@@ -159,7 +172,7 @@ def moved_aside(file: WholeFile) -> Optional[str]:
     return aside
 
 
-def linked_aside(file: WholeFile) -> Optional[str]:
+def linked_aside(file: Spot) -> Optional[str]:
     """Gives the file that is to be replaced another name too; None where there is none, or the file system has no links."""
     aside = file.spare_name()
     with contextlib.suppress(OSError):
@@ -169,8 +182,7 @@ def linked_aside(file: WholeFile) -> Optional[str]:
     return None
 
 
-def dropped(file: WholeFile, aside: Optional[str]) -> None:
+def dropped(file: Spot, aside: Optional[str]) -> None:
     """Removes what was kept aside, where it is there still."""
     if aside is not None:
-        with contextlib.suppress(OSError):
-            file.unlink(aside)
+        file.remove(aside)

@@ -28,6 +28,15 @@ class Setting(NamedTuple):
 INSIDE = Setting(True, INSERT_PEN)
 
 
+class Look(NamedTuple):
+    """How an entity is drawn: the pen of its layer, and its own; whether it is on layer 0 of a block, and on one of which nothing is drawn."""
+
+    layer: Pen
+    own: Pen
+    floating: bool
+    off: bool
+
+
 def grid_of(fields: Fields) -> Grid:
     """The grid of an insert: the columns stand along its first axis and the rows along its second, whatever its scale."""
     turn = seen(fields.point("extrusion")).after(turned(fields.real("rotation")))
@@ -69,7 +78,13 @@ class Reader:
         try:
             yield from self.read(one, setting)
         except Undrawable as why:
-            self.miss(one, why)
+            if not self.is_unasked(one, setting):
+                self.miss(one, why)
+
+    def is_unasked(self, one: Object, setting: Setting) -> bool:
+        """Whether an entity is on a layer that isn't asked for, and so is all that it draws."""
+        layer = self.stock.layer(one.target("layer"))
+        return layer.unasked and one.kind not in INSERTS and not (setting.inside and layer.name == "0")
 
     def miss(self, one: Object, why: Undrawable) -> None:
         """Counts an entity of which not all is drawn, once, however often it is read."""
@@ -97,21 +112,32 @@ class Reader:
             return
         prefix, figures = DRAWN.get(one.kind) or (INSERTS[one.kind], None)
         fields = Fields(one, prefix)
-        layer = self.stock.layers.get(fields.target("layer"), Layer(""))
-        # What is on layer 0 of a block is on the layer of the insert.
-        floating = setting.inside and layer.name == "0"
-        if fields.number("invisible") & 1 or (layer.frozen and not floating):
+        look = self.look(fields, setting)
+        if look is None:
             return
-        off, layer_pen = layer.off and not floating, LAYER_PEN if floating else self.layer_pen(layer)
-        pen = self.pen(fields, layer_pen, setting.pen)
         if figures is None:
-            yield from self.insert(one, fields, setting, Insert(fields.target("block"), layer_pen, pen, floating, off))
-        elif not off:
+            yield from self.insert(one, fields, setting, Insert(fields.target("block"), *look))
+        elif not look.off:
             if one.kind == "POLYLINE 3D":
                 fields.lists["vertices"] = array("d", chain.from_iterable(self.stock.way(one)))
             for figure in figures(fields, Context(self.stock.page, setting.inside)):
                 self.drawn[-1] += int(setting.inside)
-                yield Drawn(pen, figure, floating)
+                yield Drawn(look.own, figure, look.floating)
+
+    def look(self, fields: Fields, setting: Setting) -> Optional[Look]:
+        """How an entity is drawn by its common part; None where neither it nor what it inserts is seen."""
+        layer = self.stock.layer(fields.target("layer"))
+        # What is on layer 0 of a block is on the layer of the insert.
+        floating = setting.inside and layer.name == "0"
+        if fields.number("invisible") & 1 or (layer.frozen and not floating):
+            return None
+        layer_pen = LAYER_PEN if floating else self.layer_pen(layer)
+        return Look(layer_pen, self.pen(fields, layer_pen, setting.pen), floating, (layer.off or layer.unasked) and not floating)
+
+    def pen_outside(self, fields: Fields) -> Optional[Pen]:
+        """The pen of an entity that is in no block that is inserted, and inserts none; None where it isn't seen."""
+        look = self.look(fields, self.outside)
+        return None if look is None or look.off else look.own
 
     def layer_pen(self, layer: Layer) -> Pen:
         """The pen of a layer."""
@@ -143,7 +169,7 @@ class Reader:
             # Nothing is drawn however often: what isn't there would be counted as nothing, and put to each of its places.
             return
         cost, reach = self.sums_of(insert, runs)
-        self.charge(grid.count() * cost, grid.count() * len(runs) if setting.inside else 0)
+        self.charge(grid.copies() * cost, grid.copies() * len(runs) if setting.inside else 0)
         if fields is not None:
             insert.seat, insert.grid = seat_of(fields, block), grid
         for x, y in grid.corners():
@@ -163,7 +189,7 @@ class Reader:
     def attached(self, one: Object, setting: Setting, grid: Grid) -> Iterator[Item]:
         """The attributes of an insert."""
         items = [item for attached in self.stock.attributes.get(one.handle, []) for item in self.items(attached, setting)]
-        self.charge((grid.count() - 1) * len(items))
+        self.charge((grid.copies() - 1) * len(items))
         if items:
             yield Copies([item for item in items if isinstance(item, Drawn)], grid)
 
@@ -194,7 +220,7 @@ class Reader:
         for one in members:
             if isinstance(one, Drawn):
                 self.drawn[-1] += 1
-            found = [one] if isinstance(one, Drawn) else list(self.items(one, INSIDE))
+            found: List[Item] = [one] if isinstance(one, Drawn) else list(self.items(one, INSIDE))
             if self.is_read_again:
                 kept += [one] if isinstance(one, Drawn) or one.kind in INSERTS else [item for item in found if isinstance(item, Drawn)]
             yield from found

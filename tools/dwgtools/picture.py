@@ -5,7 +5,7 @@ from __future__ import annotations
 import contextlib
 import os
 import shutil
-from typing import IO, Any, Iterable, Tuple
+from typing import IO, Any, Iterable, Optional, Tuple
 
 from .blocks import Item
 from .colours import ink_on
@@ -13,9 +13,11 @@ from .drawings import Drawing
 from .kinds import ENTITIES, INSERTS
 from .painter import NoRoom, Page, Painter, Room, temporary, told_as_temporary
 from .parts import Reader
+from .plane import Box
+from .quick import Quick, is_placed
 from .show import Lists, Object
 from .stock import stock_of
-from .window import END_OF_FILE, cut, head, window_of
+from .window import END_OF_FILE, cut, head, lines_in, middle_of, window_at, window_of
 
 # How many bytes the elements of a picture have, whatever makes them; of a drawing of many bytes so many for each.
 MOST_WRITTEN, TIMES_WRITTEN = 1 << 26, 64
@@ -44,11 +46,11 @@ def paint(drawing: Drawing, out: IO[bytes], given: Any) -> Tuple[Reader, Painter
         with told_as_temporary():
             page, endless = (Page(files.enter_context(temporary())) for _ in range(2))
             reader, painter = painted(drawing, page, given)
-            shown = window_of(painter.extent.corners())
+            shown = window_at(given.window, painter.frame[:2]) if given.window else window_of(painter.extent.corners())
             cut(painter, shown, endless)
             for part in (endless, page):
                 part.file.seek(0)
-        out.write(head(shown, given.width, given.background, painter.widths).encode("utf-8"))
+        out.write(head(shown, given.width, given.background, painter.widths, painter.frame[:2]).encode("utf-8"))
         for part in (endless, page):
             shutil.copyfileobj(part.file, out, 1 << 20)
         out.write(END_OF_FILE.encode("utf-8"))
@@ -56,11 +58,15 @@ def paint(drawing: Drawing, out: IO[bytes], given: Any) -> Tuple[Reader, Painter
 
 
 def painted(drawing: Drawing, page: Page, given: Any) -> Tuple[Reader, Painter]:
-    """Draws the elements of a drawing on a page."""
-    stock, view, middle = stock_of(drawing, given.space, given.block)
+    """Draws the elements of a drawing on a page, by coordinates that count from the middle of what is shown."""
+    stock, view, middle = stock_of(drawing, given, is_placed)
     room = Room(max(MOST_WRITTEN, TIMES_WRITTEN * os.fstat(drawing.file.fileno()).st_size))
-    reader, painter = Reader(stock, view, ink_on(given.background)), Painter(middle, page, room)
-    with drawing.show(Lists.NUMBERS) as (_, found):
+    window: Optional[Box] = None
+    if given.window:
+        middle = middle_of(given.window)
+        window = lines_in(window_at(given.window, middle), given.width)
+    reader, painter = Reader(stock, view, ink_on(given.background)), Painter(middle, page, room, window)
+    with drawing.show(Lists.NUMBERS, Quick(reader, painter).is_drawn) as (_, found):
         for one in found:
             if one.form == "raw" and one.kind in ENTITIES:
                 reader.undrawn[f"{one.kind} (raw)"] += 1

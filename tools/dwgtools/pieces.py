@@ -7,11 +7,12 @@ from __future__ import annotations
 
 import io
 import re
+from itertools import filterfalse
 from sys import intern
-from typing import IO, Callable, Iterator, List, Optional, Tuple, Union
+from typing import IO, Callable, Iterable, Iterator, List, Match, Optional, Union
 
 from . import show
-from .names import Names
+from .names import NAMED, Names
 from .show import Lists, Object, further_objects, refuse_count, refuse_more, told_apart
 from .statuses import ToolError
 from .values import BadText, Text, read_value
@@ -24,6 +25,10 @@ BEGIN, BETWEEN = b"object ", b"\nobject "
 
 # A piece, or the lines of one object that is longer.
 Piece = Union[bytes, Iterator[bytes]]
+# Where the head of an object was found in its text, as `parts_of` gives that; this, or the object itself; and what takes some objects by their heads.
+Head = Match[bytes]
+Found = Union[Head, Object]
+Taker = Callable[[Head], bool]
 
 
 def pieces_of(text: IO[bytes]) -> Iterator[Piece]:
@@ -62,52 +67,51 @@ def lines_of(piece: Piece) -> Iterator[bytes]:
 
 def parts_of(piece: Piece) -> Optional[List[bytes]]:
     """The objects of a piece, each without the word before its handle and without its last line end; None where a line is neither field nor head."""
-    if not isinstance(piece, bytes) or not piece.startswith(BEGIN) or not piece.endswith(b"\n"):
-        return None
-    parts = piece[len(BEGIN) : -1].split(BETWEEN)
-    return parts if piece.count(b"\n") - len(parts) == piece.count(b"\n  ") else None
+    parts = divided(piece) if isinstance(piece, bytes) else []
+    return parts if parts and piece.count(b"\n") - len(parts) == piece.count(b"\n  ") else None  # type: ignore[union-attr]
+
+
+def divided(piece: bytes) -> List[bytes]:
+    """A piece at each line that begins an object; none where it doesn't begin and end as one. Any other line may stand in it."""
+    return piece[len(BEGIN) : -1].split(BETWEEN) if piece.startswith(BEGIN) and piece.endswith(b"\n") else []
 
 
 _HEAD = re.compile(rb"([0-9A-F]{1,16}) ([A-Z0-9]{1,12}(?: [A-Z0-9]{1,12}){0,3}) (typed|plain|raw) ([0-9]{1,9})(?=\n|\Z)")
-_NAMED = re.compile(rb"([0-9A-F]+) (?:LAYER|STYLE|LTYPE|APPID|BLOCK HEADER) (?:typed|plain|raw) ")
+_NAMED = {kind.encode("ascii") for kind in NAMED}
 _NAME = b"\n  entry.name "
 
 
-def objects_in(text: IO[bytes], count: int, lists: Lists = Lists.TEXT) -> Iterator[Object]:
-    """The objects of a text of so many, as `read_objects` gives them."""
+def objects_in(text: IO[bytes], count: int, lists: Lists = Lists.TEXT, is_taken: Optional[Taker] = None) -> Iterator[Object]:
+    """The objects of a text of so many, as `read_objects` gives them, but for those that are taken by their heads."""
+    return _objects_of(_all_in(text, count, lists, is_taken), lists)
+
+
+def _objects_of(found: Iterable[Found], lists: Lists) -> Iterator[Object]:
+    """Objects, of which some are found by their heads."""
+    return (one if isinstance(one, Object) else _object_of(one, lists) for one in found)
+
+
+def _all_in(text: IO[bytes], count: int, lists: Lists, is_taken: Optional[Taker]) -> Iterator[Found]:
+    """The objects of a text of so many that aren't taken: each by its head, or as an object where it was read line by line."""
     found = 0
     for piece in pieces_of(text):
-        for one in _objects_of(piece, found, count, lists):
+        heads = _sound_heads_of(piece)
+        if heads and found + len(heads) <= count:
+            found += len(heads)
+            yield from filterfalse(is_taken, heads) if is_taken else heads
+            continue
+        for one in _found_in(piece, found, count, lists):
             found += 1
-            yield one
+            if is_taken is None or isinstance(one, Object) or not is_taken(one):
+                yield one
     refuse_count(found, count)
 
 
-def _objects_of(piece: Piece, found: int, count: int, lists: Lists) -> Iterator[Object]:
-    """The objects of a piece, before which so many were found."""
-    for lines, one in _divided(piece, lists):
-        refuse_more(found, count)
-        for each in further_objects(lines, found, count, lists) if one is None else (one,):
-            found += 1
-            yield each
-
-
-def _divided(piece: Piece, lists: Lists) -> Iterator[Tuple[Iterator[bytes], Optional[Object]]]:
-    """The objects of a piece, or the lines of those that are to be read line by line."""
-    parts = parts_of(piece)
-    if parts is None:
-        yield lines_of(piece), None
-        return
-    for part in parts:
-        one = _object(part, lists)
-        yield (iter(()) if one else lines_of(BEGIN + part + b"\n")), one
-
-
-def _object(part: bytes, lists: Lists) -> Optional[Object]:
-    """An object; None of one that is to be read line by line."""
-    head = _HEAD.match(part) if len(part) < show.MOST_TEXT else None
-    if head is None or (lists is not Lists.TEXT and b"[" in part):
-        return None
+def _object_of(head: Head, lists: Lists) -> Object:
+    """The object of a head."""
+    part = head.string
+    if lists is not Lists.TEXT and b"[" in part:
+        return next(further_objects(lines_of(BEGIN + part + b"\n"), 0, None, lists))
     handle, kind, form, number = head.groups()
     # (a line feed stands before the first line too)
     text = part[head.end() :].replace(b"\n  ", b"\n") + b"\n"
@@ -115,15 +119,43 @@ def _object(part: bytes, lists: Lists) -> Optional[Object]:
     return told_apart(one, text)
 
 
-def _sound_parts_of(piece: Piece) -> Optional[List[bytes]]:
-    """The objects of a piece as `parts_of` has them; None where one has a head that is to be read by itself, or too much text."""
+def _head_of(part: bytes) -> Optional[Head]:
+    """The head of an object; None of one that is to be read line by line."""
+    return _HEAD.match(part) if len(part) < show.MOST_TEXT else None
+
+
+def _sound_heads_of(piece: Piece) -> List[Head]:
+    """The heads of all objects of a piece; none where any of these is to be read line by line."""
     parts = parts_of(piece)
-    return parts if parts and max(map(len, parts)) < show.MOST_TEXT and all(map(_HEAD.match, parts)) else None
+    if not parts or (len(piece) >= show.MOST_TEXT and max(map(len, parts)) >= show.MOST_TEXT):  # type: ignore[arg-type]
+        return []
+    heads = list(filter(None, map(_HEAD.match, parts)))
+    return heads if len(heads) == len(parts) else []
 
 
-def _take_names(parts: List[bytes], names: Names) -> None:
+def _found_in(piece: Piece, found: int, count: int, lists: Lists) -> Iterator[Found]:
+    """The objects of a piece, before which so many were found."""
+    parts = parts_of(piece)
+    if parts is None:
+        yield from further_objects(lines_of(piece), found, count, lists)
+        return
+    for part in parts:
+        refuse_more(found, count)
+        head = _head_of(part)
+        if head:
+            found += 1
+            yield head
+            continue
+        for one in further_objects(lines_of(BEGIN + part + b"\n"), found, count, lists):
+            found += 1
+            yield one
+
+
+def _take_names(heads: List[Head], names: Names) -> None:
     """Takes the names of the objects that have one."""
-    for head in filter(None, map(_NAMED.match, parts)):
+    for head in heads:
+        if head[2] not in _NAMED:
+            continue
         _, has_name, rest = head.string.partition(_NAME)
         name = read_value(b"entry.name", rest.partition(b"\n")[0]) if has_name else None
         if isinstance(name, Text):
@@ -134,10 +166,10 @@ def names_in(text: IO[bytes], count: int) -> Names:
     """The names of layers, styles, linetypes, applications and blocks, by handle, in a text of so many objects."""
     names, found = Names(), 0
     for piece in pieces_of(text):
-        parts = _sound_parts_of(piece)
-        if parts and found + len(parts) <= count:
-            _take_names(parts, names)
-            found += len(parts)
+        heads = _sound_heads_of(piece)
+        if heads and found + len(heads) <= count:
+            _take_names(heads, names)
+            found += len(heads)
             continue
         for one in further_objects(lines_of(piece), found, count):
             found += 1
@@ -201,7 +233,7 @@ class Course:
             if not piece:
                 refuse_count(self.found, self.count)
                 return
-            for one in _objects_of(piece, self.found, self.count, Lists.TEXT):
+            for one in _objects_of(_found_in(piece, self.found, self.count, Lists.TEXT), Lists.TEXT):
                 self.found += 1
                 yield one
         except (BadText, ToolError) as fault:
@@ -212,11 +244,11 @@ class Course:
         end = self.at + size
         return size if self.is_whole and end == len(self.held) else self.held.rfind(BETWEEN, self.at, end) + 1 - self.at
 
-    def pass_over(self, piece: bytes, parts: Optional[List[bytes]]) -> None:
-        """Passes over a piece that begins here, whose objects are these, or are to be read line by line."""
+    def pass_over(self, piece: bytes, sound: int) -> None:
+        """Passes over a piece that begins here, which has so many objects, or 0 where any of these is to be read line by line."""
         self.at += len(piece)
-        if parts and self.found + len(parts) <= self.count:
-            self.found += len(parts)
+        if sound and self.found + sound <= self.count:
+            self.found += sound
             return
         for _ in self._counted(piece):
             pass
@@ -232,9 +264,9 @@ def pass_same(one: Course, other: Course) -> None:
         if size <= 0:
             return
         piece = one.held[one.at : one.at + size]
-        parts = _sound_parts_of(piece)
-        one.pass_over(piece, parts)
-        other.pass_over(piece, parts)
+        sound = len(_sound_heads_of(piece))
+        one.pass_over(piece, sound)
+        other.pass_over(piece, sound)
 
 
 # How many bytes are compared first.

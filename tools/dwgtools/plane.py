@@ -94,17 +94,31 @@ def unit(direction: Tuple[float, ...]) -> Tuple[float, float, float]:
     return (x / length, y / length, z / length) if length and math.isfinite(length) else (0.0, 0.0, 1.0)
 
 
+def axes(x: float, y: float, z: float) -> Tuple[Tuple[float, float, float], Tuple[float, float, float]]:
+    """The axes of a plane by its normal, which has the length 1, chosen by the rule of the arbitrary axis."""
+    # The first axis is Y cross the normal where that is close to Z, else Z cross the normal.
+    across = (z, 0.0, -x) if abs(x) < 1 / 64 and abs(y) < 1 / 64 else (-y, x, 0.0)
+    size = math.sqrt(sum(part * part for part in across))
+    a, b, c = (part / size for part in across)
+    return (a, b, c), (y * c - z * b, z * a - x * c, x * b - y * a)
+
+
 def seen(normal: Tuple[float, ...], elevation: float = 0.0) -> Affine:
-    """How a plane with a normal is seen from above, its axes chosen by the rule of the arbitrary axis."""
+    """How a plane with a normal is seen from above: of its axes x and y alone."""
     x, y, z = unit(normal)
     if x == 0 and y == 0 and z > 0:
         return SAME
-    # The first axis is Y cross the normal where that is close to Z, else Z cross the normal; only its x and y are seen.
-    across = (z, 0.0, -x) if abs(x) < 1 / 64 and abs(y) < 1 / 64 else (-y, x, 0.0)
-    size = math.sqrt(sum(part * part for part in across))
-    first = tuple(part / size for part in across)
-    second = (y * first[2] - z * first[1], z * first[0] - x * first[2])
+    first, second = axes(x, y, z)
     return Affine(first[0], first[1], second[0], second[1], x * elevation, y * elevation)
+
+
+def heights(normal: Tuple[float, ...], elevation: float = 0.0) -> Affine:
+    """How high a plane with a normal is at its points: the x that they are brought to, for a y of 0."""
+    x, y, z = unit(normal)
+    if not (x or y):
+        return Affine(0.0, 0.0, 0.0, 0.0, z * elevation, 0.0)
+    first, second = axes(x, y, z)
+    return Affine(first[2], 0.0, second[2], 0.0, z * elevation, 0.0)
 
 
 # An ellipse whose minor axis is at most this part of its major one is drawn as a line, and so is an arc whose bulge is at most this.
@@ -243,7 +257,7 @@ class Box:
 
     def add(self, steps: Iterable[Step]) -> None:
         """Takes points and arcs in."""
-        left, right, low, high = self.sides
+        left, right, low, high = self.left, self.right, self.low, self.high
         for step in steps:
             for x, y in step.around() if isinstance(step, Arc) else (step,):
                 # (there may be millions of points, and most are inside)
@@ -251,12 +265,16 @@ class Box:
                     left, right = min(left, x), max(right, x)
                 if not low <= y <= high:
                     low, high = min(low, y), max(high, y)
-        self.sides = left, right, low, high
+        self.left, self.right, self.low, self.high = left, right, low, high
 
     def holds(self, place: Point, reach: float) -> bool:
         """Whether all is inside that is as close to a place."""
         x, y = place
         return self.left <= x - reach and x + reach <= self.right and self.low <= y - reach and y + reach <= self.high
+
+    def meets(self, other: "Box") -> bool:
+        """Whether it has a point in common with another."""
+        return self.left <= other.right and other.left <= self.right and self.low <= other.high and other.low <= self.high
 
     def corners(self) -> List[Point]:
         """The lower left corner and the upper right one; none where nothing is drawn."""

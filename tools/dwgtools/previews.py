@@ -2,12 +2,14 @@
 
 from __future__ import annotations
 
+import struct
 from dataclasses import dataclass
-from typing import IO, Any, Dict, List, Optional
+from typing import IO, Any, Dict, List, Optional, Tuple
 
 from .drawings import Drawing
 from .file import PREVIEW_PLACE, entries_of_preview, little
 from .inputs import from_begin, pieces_of, refuse_changed, state_of
+from .program import at_once
 from .statuses import Exit, Status, ToolError
 from .versions import LIMIT, MOST_HEADER
 
@@ -59,7 +61,7 @@ def section_of(file: IO[bytes]) -> Optional[Section]:
 
 def refuse_header(drawing: Drawing) -> None:
     """Refuses what has no whole file header, as the program does."""
-    answer = drawing.program.run(["sections"], from_begin(drawing.file))
+    answer = drawing.program.run(["sections"], from_begin(drawing.file), patience=at_once())
     if answer.status != Status.DONE:
         said = answer.notes.decode("utf-8", "replace").strip() or f"status {int(answer.status)}"
         raise ToolError(f"{drawing.name}: {said[5:] if said.startswith('dwg: ') else said}", answer.status)
@@ -91,24 +93,42 @@ MASKS = {3: 12, 6: 16}
 
 
 def bitmap_file(bitmap: bytes) -> Optional[bytes]:
-    """A bitmap with the header of a file of BMP before it, which a drawing leaves out; None where it isn't whole."""
+    """A bitmap with the header of a file of BMP before it, which a drawing leaves out; None where it isn't whole, or has no bits."""
     if bitmap[:2] == b"BM":
         return bitmap
     before = before_bits(bitmap)
-    if before is None or before > len(bitmap):
+    if before is None or before + least_bits(bitmap) > len(bitmap):
         return None
     return b"".join((b"BM", (14 + len(bitmap)).to_bytes(4, "little"), bytes(4), (14 + before).to_bytes(4, "little"), bitmap))
 
 
 def before_bits(bitmap: bytes) -> Optional[int]:
-    """How many bytes of a bitmap stand before its bits: its header, the masks after it, and its palette. None where it begins as no bitmap."""
+    """How many bytes of a bitmap stand before its bits: its header, the masks after it, and its palette. None where it begins as no bitmap, or as one
+    without width or height."""
     length = little(bitmap, 0, 4)
-    if length == OLDEST <= len(bitmap):
+    if not (length == OLDEST or length in LENGTHS) or len(bitmap) < length or not all(size_of(bitmap)):
+        return None
+    if length == OLDEST:
         bits = little(bitmap, 10, 2)
         return length + (3 << bits if bits <= 8 else 0)
-    if length not in LENGTHS or len(bitmap) < length:
-        return None
     bits, compression, used = little(bitmap, 14, 2), little(bitmap, 16, 4), little(bitmap, 32, 4)
     colours = used or (1 << bits if 0 < bits <= 8 else 0)
     return length + (MASKS.get(compression, 0) if length == USUAL else 0) + 4 * colours
 
+
+def size_of(bitmap: bytes) -> Tuple[int, int]:
+    """The width and the height of a bitmap, whose rows may go from top to bottom."""
+    if little(bitmap, 0, 4) == OLDEST:
+        return little(bitmap, 4, 2), little(bitmap, 6, 2)
+    width, height = struct.unpack_from("<ii", bitmap, 4)
+    return max(width, 0), abs(height)
+
+
+def least_bits(bitmap: bytes) -> int:
+    """How many bytes of bits a bitmap has at the least: each row of one that isn't compressed has whole words of four bytes, but perhaps the last."""
+    is_oldest = little(bitmap, 0, 4) == OLDEST
+    bits, compression = (little(bitmap, 10, 2), 0) if is_oldest else (little(bitmap, 14, 2), little(bitmap, 16, 4))
+    if compression and compression not in MASKS:
+        return 1
+    width, height = size_of(bitmap)
+    return max(1, (width * bits + 31) // 32 * 4 * (height - 1) + (width * bits + 7) // 8)

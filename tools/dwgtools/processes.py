@@ -7,10 +7,29 @@ import os
 import signal
 import subprocess
 from dataclasses import dataclass
-from typing import Iterable, Iterator, Set
+from typing import Iterable, Iterator, List, Optional, Set, Union
 
 # The runs of the program that have begun: what a signal leaves of them, the end of the tool ends.
 running_now: Set["subprocess.Popen[bytes]"] = set()
+
+
+@dataclass(eq=False)
+class Session:
+    """A process of the tool's own with all that it runs: its number, and its status once its end is known."""
+
+    pid: int
+    returncode: Optional[int] = None
+
+
+Running = Union["subprocess.Popen[bytes]", Session]
+
+# The processes of the tool that run the program by themselves, in sessions of their own.
+sessions_now: Set[Session] = set()
+
+
+def all_running() -> List[Running]:
+    """All sessions that have begun."""
+    return [*running_now, *sessions_now]
 
 
 @dataclass(frozen=True)
@@ -37,7 +56,7 @@ def _process(number: int) -> Process:
     return Process(number, int(fields[3]), sum(map(int, fields[11:15])) / os.sysconf("SC_CLK_TCK"))
 
 
-def send_to_all(runs: Iterable["subprocess.Popen[bytes]"], number: int) -> None:
+def send_to_all(runs: Iterable[Running], number: int) -> None:
     """Sends a signal to runs and all that they have begun, each of which is a session. One of which the end is known is passed: its number may be
     another's."""
     sessions = {ran.pid for ran in runs if ran.returncode is None}
@@ -53,7 +72,7 @@ def send_to_all(runs: Iterable["subprocess.Popen[bytes]"], number: int) -> None:
 
 def end_running() -> None:
     """Ends all runs."""
-    send_to_all(list(running_now), signal.SIGKILL)
+    send_to_all(all_running(), signal.SIGKILL)
 
 
 def computed_by(session: int) -> float:

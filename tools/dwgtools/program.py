@@ -7,27 +7,37 @@ import errno
 import os
 import shutil
 import signal
+import stat
 import subprocess
 import tempfile
 import threading
 import time
 from dataclasses import dataclass
-from typing import IO, Any, Iterator, Optional, Sequence, Tuple, Union
+from typing import IO, Any, Callable, Iterable, Iterator, Optional, Sequence, Tuple, Union
 
 from . import TOP
 from .escapes import one_line
-from .notes import MOST_NOTES, read_note
+from .notes import MOST_NOTES, Said, read_note
+from .pipes import LOOK, Pipes, await_end, buffered
 from .processes import computed_alone, computed_by, end_running, running_now, send_to_all
 from .signals import await_interrupt, uninterrupted
 from .statuses import Exit, Status, ToolError
 from .streams import hush_where_named
 from .temporary import TemporaryFull, temporary_name
+from .versions import LIMIT
 
 # How many seconds a run waits at the most until there is room for it.
 MOST_WAITING = 30
 
-# How often a run with a limit is looked at, in seconds.
-LOOK = 0.2
+# How many seconds a run may take that has little to do, however busy the machine is: a launcher answers without a proof in a minute.
+MOST_AT_ONCE = 1200
+
+# What a run writes at the most, whatever it was given: what is held of it, and what passes by or goes to a file. And for each byte that it is given
+# so much more. `show` has up to 164 bytes for one (`show.MOST_SHOWN`), `audit` no more than two findings of a hundred, `certify` 24 for an object,
+# which has seven; `recover` notes what is lost by an entry of the map, which has two bytes, and what is found at a place, in fifty bytes each.
+MOST_HELD, MOST_PASSED = 1 << 20, 1 << 28
+EACH = {"show": 512, "audit": 512, "certify": 4}
+EACH_NOTED = {"recover": 256}
 
 
 @dataclass
@@ -114,7 +124,9 @@ class NotBuilt(ToolError):
     """The launcher has no program that is built, or one that is older than its sources; it says itself what to do."""
 
     def __init__(self, notes: bytes) -> None:
-        super().__init__(read_note(notes.decode("utf-8", "replace").splitlines()[-1]).text, Exit.NO_PROGRAM)
+        line = notes.decode("utf-8", "replace").splitlines()[-1]
+        note = read_note(line)
+        super().__init__(note.text if isinstance(note, Said) else line, Exit.NO_PROGRAM)
 
 
 class Program:
@@ -129,7 +141,7 @@ class Program:
 
     def prepare(self) -> None:
         """Runs the program once for nothing, so that the launcher looks once whether it is built, and not at each run."""
-        status = self.run(["drill", "1"]).status
+        status = self.run(["drill", "1"], patience=at_once()).status
         if status != Status.DONE:
             raise ProgramFailed(f"status {int(status)} for `drill 1`")
         os.environ["DWG_BUILT"] = "1"
@@ -148,37 +160,35 @@ class Program:
         stdin = subprocess.PIPE if given is not None else subprocess.DEVNULL if source is None else source
         stdout, stderr = (subprocess.PIPE if file is None else file for file in (output, notes))
         with self._started(words, stdin, stdout, stderr) as ran:
-            out, said = ran.communicate(given) if patience is None else _awaited(ran, words[0], given, patience)
+            watch = Watch(words[0], source, ran.pid, output, notes, patience)
+            out, said = watch.exchanged(ran, given or b"")
         if notes is not None:
             notes.seek(0)
             said = notes.read(MOST_NOTES)
-        return Answer(_status_of(ran.returncode, said), out or b"", said)
+        return Answer(status_of_run(ran.returncode, said), out, said)
 
     def tally(self, words: Sequence[str], source: Union[int, IO[bytes]]) -> Tally:
         """Runs the program and counts the lines of its output, of which no more than a piece is held."""
-        first, last, count = b"", b"", 0
         with _file_of_notes() as notes, self._started(words, source, subprocess.PIPE, notes) as ran:
             assert ran.stdout is not None
-            for piece in iter(lambda: ran.stdout.read(MOST_NOTES), b""):  # type: ignore[union-attr]
-                first = (first + piece)[:MOST_NOTES] if b"\n" not in first else first
-                last = (last + piece)[-MOST_NOTES:]
-                count += piece.count(b"\n")
-            code = ran.wait()
+            watch = Watch(words[0], source, ran.pid, notes=notes)
+            lines = lines_told(watch.passed(ran.stdout.fileno(), lambda: ran.poll() is not None))
             notes.seek(0)
             said = notes.read(MOST_NOTES)
-        return Tally(_status_of(code, said), first.partition(b"\n")[0], last.rstrip(b"\n").rpartition(b"\n")[2], count, said)
+        return Tally(status_of_run(ran.returncode, said), *lines, said)
 
     @contextlib.contextmanager
     def lines(self, words: Sequence[str], source: Union[int, IO[bytes]]) -> Iterator[IO[bytes]]:
         """The output while the program runs; what it notes goes to a file, and status 3 and above is ToolError after its end."""
         with _file_of_notes() as notes, self._started(words, source, subprocess.PIPE, notes) as ran:
             assert ran.stdout is not None
-            yield ran.stdout
+            watch = Watch(words[0], source, ran.pid, notes=notes)
+            yield buffered(watch.passed(ran.stdout.fileno(), lambda: ran.poll() is not None))
             ran.stdout.close()
-            code = ran.wait()
+            watch.await_end(lambda: ran.poll() is not None)
             notes.seek(0)
             said = notes.read(MOST_NOTES)
-            status = _status_of(code, said)
+            status = status_of_run(ran.returncode, said)
             if status == Status.WRITE_FAULT:
                 # (its output is a pipe, so that it is its notes that have no place)
                 raise TemporaryFull()
@@ -232,23 +242,98 @@ class Program:
             end_running()
 
 
-def _awaited(ran: "subprocess.Popen[bytes]", command: str, given: Optional[bytes], patience: Patience) -> Tuple[Optional[bytes], Optional[bytes]]:
-    """The output and the notes of a run, which has ended. A look that comes late counts as one that doesn't: the tool was stopped meanwhile."""
-    before, due = patience.computed, 0.0
-    while True:
-        try:
-            return ran.communicate(given, LOOK)
-        except subprocess.TimeoutExpired:
-            patience.looks, given = patience.looks + 1, None
-        patience.computed = max(patience.computed, before + computed_alone(ran.pid))
+def at_once() -> Patience:
+    """The patience with a run that has little to do."""
+    return Patience(float("inf"), MOST_AT_ONCE)
+
+
+def size_of(source: Union[int, IO[bytes], bytes, None]) -> int:
+    """How many bytes a run is given at the most."""
+    if source is None or source == subprocess.DEVNULL:
+        return 0
+    if isinstance(source, bytes):
+        return len(source)
+    told = os.fstat(source if isinstance(source, int) else source.fileno())
+    return min(told.st_size, LIMIT) if stat.S_ISREG(told.st_mode) else LIMIT
+
+
+class Watch:
+    """Sees that a run writes no more than any answer has, and takes no longer than there is patience: ProgramFailed ends it otherwise."""
+
+    def __init__(
+        self,
+        command: str,
+        source: Union[int, IO[bytes], bytes, None],
+        number: int,
+        output: Optional[IO[bytes]] = None,
+        notes: Optional[IO[bytes]] = None,
+        patience: Optional[Patience] = None,
+    ) -> None:
+        self.command, self.number, self.patience = command, number, patience
+        given = size_of(source)
+        self._most, self._most_noted = EACH.get(command, 0) * given, EACH_NOTED.get(command, 0) * given
+        self._files = [(file, MOST_PASSED + most) for file, most in ((output, self._most), (notes, self._most_noted)) if file is not None]
+        self._before, self._due = patience.computed if patience else 0.0, 0.0
+
+    def look(self) -> None:
+        """Looks at what it has written into files, and at how long it takes."""
+        for file, most in self._files:
+            self.see(os.fstat(file.fileno()).st_size, most)
+        patience = self.patience
+        if patience is None:
+            return
+        patience.looks += 1
+        patience.computed = max(patience.computed, self._before + computed_alone(self.number))
         # All processes are looked at for what it runs, and so no sooner than all processors could have computed what is left.
-        if time.monotonic() >= due:
-            patience.computed = max(patience.computed, before + computed_by(ran.pid))
-            due = time.monotonic() + (patience.computing - patience.computed) / (os.cpu_count() or 1)
+        if time.monotonic() >= self._due:
+            patience.computed = max(patience.computed, self._before + computed_by(self.number))
+            self._due = time.monotonic() + (patience.computing - patience.computed) / (os.cpu_count() or 1)
         if patience.computed >= patience.computing:
-            raise TookTooLong(f"`{command}` takes more than {patience.computing:g} seconds")
+            raise TookTooLong(f"`{self.command}` takes more than {patience.computing:g} seconds")
         if patience.looks * LOOK >= patience.taking:
-            raise ProgramFailed(f"`{command}` has no answer in {patience.taking:g} seconds")
+            raise ProgramFailed(f"`{self.command}` has no answer in {patience.taking:g} seconds")
+
+    def see(self, count: int, most: int) -> None:
+        """Sees that it has written no more than so much."""
+        if count > most:
+            raise ProgramFailed(f"`{self.command}` writes more than any answer has")
+
+    def passed(self, source: int, has_ended: Callable[[], bool]) -> Iterator[bytes]:
+        """Its output, in pieces, of which none is held. It has ended after the last."""
+        count = 0
+        for _, piece in Pipes([source], has_ended, self.look).pieces():
+            count += len(piece)
+            self.see(count, MOST_PASSED + self._most)
+            yield piece
+        self.await_end(has_ended)
+
+    def exchanged(self, ran: "subprocess.Popen[bytes]", given: bytes) -> Tuple[bytes, bytes]:
+        """The output of a run that is given bytes, and the last of its notes, where these come by pipes. It has ended then."""
+        out, said, noted = bytearray(), b"", 0
+        sources = [stream.fileno() for stream in (ran.stdout, ran.stderr) if stream is not None]
+        for source, piece in Pipes(sources, lambda: ran.poll() is not None, self.look).pieces(ran.stdin, given):
+            if ran.stdout is not None and source == ran.stdout.fileno():
+                out += piece
+                self.see(len(out), MOST_HELD + self._most)
+            else:
+                said, noted = (said + piece)[-MOST_NOTES:], noted + len(piece)
+                self.see(noted, MOST_HELD + self._most_noted)
+        self.await_end(lambda: ran.poll() is not None)
+        return bytes(out), said
+
+    def await_end(self, has_ended: Callable[[], bool]) -> None:
+        """Waits until it has ended."""
+        await_end(self.number, has_ended, self.look)
+
+
+def lines_told(pieces: Iterable[bytes]) -> Tuple[bytes, bytes, int]:
+    """The first and the last line of an output that comes in pieces, and how many there are."""
+    first, last, count = b"", b"", 0
+    for piece in pieces:
+        first = (first + piece)[:MOST_NOTES] if b"\n" not in first else first
+        last = (last + piece)[-MOST_NOTES:]
+        count += piece.count(b"\n")
+    return first.partition(b"\n")[0], last.rstrip(b"\n").rpartition(b"\n")[2], count
 
 
 def _file_of_notes() -> IO[bytes]:
@@ -266,7 +351,7 @@ def ready_program(given: Optional[str]) -> Program:
     return program
 
 
-def _status_of(code: int, notes: bytes) -> Status:
+def status_of_run(code: int, notes: bytes) -> Status:
     """The status of the program. NotBuilt where the launcher has none; ProgramFailed where it has no such status or was killed, with its last note."""
     if code == -signal.SIGXFSZ:
         return Status.WRITE_FAULT

@@ -9,7 +9,7 @@ from typing import Any, Dict, Iterable, Iterator, List, Optional
 
 from .chains import Chain
 from .escapes import one_line
-from .notes import LOSSES, Recovery
+from .notes import LOSSES, MAPPING, Recovery
 from .streams import input_name, is_standard
 from .survey import Survey
 
@@ -91,7 +91,7 @@ class Report:
     @property
     def is_map_whole(self) -> bool:
         """Whether all entries of the map are known."""
-        return not any(self.told.lost[sort] for sort in ("file header", "map page", "map end"))
+        return not any(self.told.lost[sort] for sort in MAPPING)
 
     @property
     def entries(self) -> int:

@@ -3,7 +3,7 @@
 from __future__ import annotations
 
 from dataclasses import asdict, dataclass
-from typing import Any, Dict, Optional
+from typing import Any, Dict, Optional, Sequence
 
 from .escapes import one_line
 from .file import Preview
@@ -47,7 +47,7 @@ def as_object(row: Row) -> Dict[str, Any]:
     return told
 
 
-def as_line(row: Row) -> str:
+def as_line(row: Row, columns: Sequence[str] = COLUMNS) -> str:
     """A line of TSV."""
-    values = (getattr(row, column) for column in COLUMNS)
+    values = (getattr(row, column) for column in columns)
     return "\t".join("" if value is None else one_line(str(value)) for value in values)

@@ -78,7 +78,8 @@ class Fields:
 def check(values: Iterable[float]) -> None:
     """Undrawable where a number can't be drawn."""
     # (as steps that Python makes itself: there may be millions)
-    if not all(map(FARTHEST.__ge__, map(abs, values))):
+    sizes: Iterable[float] = map(abs, values)
+    if not all(map(FARTHEST.__ge__, sizes)):
         raise Undrawable("a number that is none or too large")
 
 
@@ -576,7 +577,10 @@ def way_of(segments: Segments, plane: Optional[Affine]) -> Way:
     """The way along segments, in their plane or as it is seen."""
     plane = None if plane == SAME else plane
     begin, steps = segments.corner(0), Steps(segments, plane)
-    return Way(begin if plane is None else plane.at(*begin), steps if segments.count > MANY else list(steps), segments.closed)
+    taken: Iterable[Step] = steps
+    if segments.count <= MANY:
+        taken = list(steps)
+    return Way(begin if plane is None else plane.at(*begin), taken, segments.closed)
 
 
 def seen_steps(steps: Iterable[Step], plane: Affine) -> Iterator[Step]:
@@ -587,7 +591,10 @@ def seen_steps(steps: Iterable[Step], plane: Affine) -> Iterator[Step]:
 def even(plane: Affine, segments: Segments, width: float) -> Band:
     """The width of a polyline that has one."""
     edges = Edges(segments, plane, width / 2)
-    return Band(way_of(segments, None), plane, width, edges if segments.count > MANY else list(edges))
+    taken: Iterable[Step] = edges
+    if segments.count <= MANY:
+        taken = list(edges)
+    return Band(way_of(segments, None), plane, width, taken)
 
 
 # How many times longer than the half width a corner is at the most before it is cut off, in SVG.

@@ -16,6 +16,7 @@ from array import array
 from dataclasses import dataclass, field
 from typing import IO, Any, Dict, Iterable, Iterator, List, Optional, Sequence, Tuple
 
+from .encodings import code_page
 from .statuses import Exit, ToolError
 from .values import BadText, Bytes, Reference, Text, Value, Words, read_bytes, read_field, read_text, read_value
 from .versions import LIMIT
@@ -223,6 +224,13 @@ class Prefix:
     classes: Classes
     sections: List[Tuple[int, Bytes]]
     count: int
+    # The code page by which texts are read, where it isn't that of the header.
+    read_by: Optional[str] = None
+
+    @property
+    def page(self) -> str:
+        """The code page of the texts."""
+        return self.read_by or code_page(self.codepage)
 
 
 def _next(lines: Iterator[bytes]) -> bytes:

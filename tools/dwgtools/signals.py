@@ -9,17 +9,17 @@ import threading
 import time
 from typing import Iterator, List
 
-from .processes import running_now, send_to_all
+from .processes import all_running, send_to_all
 
 
 def _pause(number: int, _: object) -> None:
     """Stops as a terminal asks for, with all that runs, which the terminal doesn't stop; and goes on with it."""
-    send_to_all(list(running_now), signal.SIGSTOP)
+    send_to_all(all_running(), signal.SIGSTOP)
     signal.signal(number, signal.SIG_DFL)
     # (what no shell would wake up again isn't stopped)
     os.kill(os.getpid(), number)
     signal.signal(number, _pause)
-    send_to_all(list(running_now), signal.SIGCONT)
+    send_to_all(all_running(), signal.SIGCONT)
 
 
 # How many of `uninterrupted` the main thread, which alone takes signals, is in; and the signals that came meanwhile.
@@ -84,6 +84,8 @@ def _end(number: int, _: object) -> None:
 
 def take_signals() -> None:
     """Ends or stops the tool by each signal that isn't ignored already, and lets in an interrupt that waited while Python began."""
+    # Where it is ignored, as who began the tool may have it, the system keeps no status of a child, and subprocess would take each for 0.
+    signal.signal(signal.SIGCHLD, signal.SIG_DFL)
     for number in (*ENDING, signal.SIGTSTP):
         if signal.getsignal(number) != signal.SIG_IGN:
             signal.signal(number, _end if number in ENDING else _pause)

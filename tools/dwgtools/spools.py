@@ -5,12 +5,14 @@ from __future__ import annotations
 import contextlib
 import json
 import tempfile
-from typing import Any, Iterator, List
+from typing import IO, Any, Iterator, List, Optional, cast
 
 from .temporary import of_temporary, temporary_told
 
 # How many bytes are kept in memory, and how many are read at once.
 LITTLE, PIECE = 1 << 20, 1 << 16
+# How much text is kept to be read again: that of a drawing of 32 MiB with usual entities.
+MOST_KEPT = 1 << 28
 
 
 class Spool:
@@ -53,3 +55,55 @@ class Rows:
 
     def __iter__(self) -> Iterator[List[Any]]:
         return map(json.loads, self._spool.lines())
+
+
+class Keeper:
+    """A text that is read, and kept to be read again as long as it is short enough and finds a place."""
+
+    def __init__(self) -> None:
+        self._text: Optional[IO[bytes]] = None
+        self._left = MOST_KEPT
+        self._file: Optional[IO[bytes]] = cast(IO[bytes], tempfile.SpooledTemporaryFile(LITTLE))
+
+    def of(self, text: IO[bytes]) -> IO[bytes]:
+        """A text, to be read through this."""
+        self._text = text
+        return cast(IO[bytes], self)
+
+    def read(self, size: int) -> bytes:
+        """The next bytes."""
+        assert self._text is not None
+        return self._keep(self._text.read(size))
+
+    def readline(self, size: int = -1) -> bytes:
+        """The rest of a line."""
+        assert self._text is not None
+        return self._keep(self._text.readline(size))
+
+    def _keep(self, data: bytes) -> bytes:
+        """Keeps bytes, and gives them."""
+        self._left -= len(data)
+        if self._left < 0:
+            self.close()
+        if self._file is not None:
+            try:
+                self._file.write(data)
+            except OSError:
+                self.close()
+        return data
+
+    def kept(self) -> Optional[IO[bytes]]:
+        """The text from where it was read first; None where it isn't kept."""
+        if self._file is not None:
+            try:
+                self._file.seek(0)
+            except OSError:
+                self.close()
+        return self._file
+
+    def close(self) -> None:
+        """Keeps nothing any more."""
+        file, self._file = self._file, None
+        if file is not None:
+            with contextlib.suppress(OSError):
+                file.close()

@@ -27,6 +27,7 @@ class Exit(enum.IntEnum):
     NOTHING_KEPT = 65
     NOTHING_FOUND = 66
     TOO_MUCH_TEXT = 67
+    NOT_AS_KEPT = 68
     NO_PROGRAM = 69
     FAILURE = 70
     EXISTS = 73

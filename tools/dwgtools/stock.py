@@ -4,15 +4,18 @@ from __future__ import annotations
 
 import statistics
 from array import array
-from dataclasses import dataclass, field
+from dataclasses import dataclass, field, replace
+from functools import partial
 from itertools import chain
-from typing import Dict, Iterator, List, NamedTuple, Optional, Set, Tuple
+from typing import Any, Callable, Dict, Iterator, List, NamedTuple, Optional, Set, Tuple
 
 from .drawings import Drawing
-from .encodings import code_page, decoded
+from .encodings import decoded
 from .escapes import one_line
 from .kinds import PLACES, inserted_by, mode_of
 from .names import class_names
+from .patterns import Patterns
+from .pieces import Head
 from .plane import Point, seen
 from .shapes import FARTHEST, Undrawable
 from .show import Lists, Object
@@ -33,13 +36,14 @@ OLDER = "AC1014"
 
 @dataclass(frozen=True)
 class Layer:
-    """A layer: its name, its colour, the number of its lineweight, and whether it is off or frozen."""
+    """A layer: its name, its colour, the number of its lineweight, and whether it is off or frozen, or isn't asked for."""
 
     name: str = "0"
     colour: int = 7
     weight: int = 31
     off: bool = False
     frozen: bool = False
+    unasked: bool = False
 
 
 def layer_of(one: Object, page: str, version: str) -> Layer:
@@ -110,19 +114,38 @@ def chained(vertices: Dict[int, Vertex], first: int, last: int) -> List[Vertex]:
     return []
 
 
+class Middle:
+    """The middle of the entities of a space, by the places of all."""
+
+    def __init__(self) -> None:
+        self.xs, self.ys = array("d"), array("d")
+
+    def take(self, place: Optional[Point]) -> None:
+        """Takes the place of an entity."""
+        if place:
+            self.xs.append(place[0])
+            self.ys.append(place[1])
+
+    def point(self) -> Optional[Point]:
+        """The medians, where there is any."""
+        return (statistics.median_low(self.xs), statistics.median_low(self.ys)) if self.xs else None
+
+
 # A polyline that was made a curve has the corners of the frame that it was made from among its vertices; they aren't seen.
 CURVED, OF_FRAME = 3, 16
 
 
 @dataclass
 class Stock:
-    """What is known of a drawing before it is drawn: its code page, how many objects it has, layers, blocks, attributes by their insert, the
-    vertices of polylines in space by handle, the modes of these, the two spaces, and the blocks and layers of the inserts in each by its mode."""
+    """What is known of a drawing before it is drawn: its code page, how many objects it has, the names of layers that are asked for, where not all
+    are, layers, blocks, attributes by their insert, the vertices of polylines in space by handle, the modes of these, the two spaces, and the
+    blocks and layers of the inserts in each by its mode."""
 
     page: str
     version: str
     classes: Dict[int, str]
     objects: int
+    asked: Optional[Patterns] = None
     layers: Dict[int, Layer] = field(default_factory=dict)
     blocks: Dict[int, Block] = field(default_factory=dict)
     attributes: Dict[int, List[Object]] = field(default_factory=dict)
@@ -146,11 +169,23 @@ class Stock:
             if found:
                 self.inserted.setdefault(mode_of(one) or 0, set()).add(found)
 
+    def layer(self, handle: int) -> Layer:
+        """The layer of a handle; one without a name where it isn't there."""
+        return self.layers.get(handle) or self.as_asked(Layer(""))
+
+    def as_asked(self, layer: Layer) -> Layer:
+        """A layer by whether it is asked for."""
+        return replace(layer, unasked=True) if self.asked and not self.asked.match(layer.name) else layer
+
+    def idle_patterns(self) -> List[str]:
+        """What is asked for as the name of a layer, and no layer has."""
+        return self.asked.idle(layer.name for layer in self.layers.values()) if self.asked else []
+
     def inner(self, handle: int, mode: int = 0) -> Iterator[int]:
         """The blocks that are inserted in a block, or in the space of a mode, and may be drawn."""
         members = self.blocks[handle].members if handle in self.blocks else []
         for block, layer_handle in chain(self.inserted.get(mode, ()), filter(None, map(inserted_by, members))):
-            layer = self.layers.get(layer_handle, Layer(""))
+            layer = self.layer(layer_handle)
             if block in self.blocks and not self.blocks[block].external and (layer.name == "0" or not layer.frozen):
                 yield block
 
@@ -164,13 +199,21 @@ class Stock:
     def take_part(self, one: Object) -> None:
         """Keeps a layer, a block, the two spaces, an attribute."""
         if one.kind == "LAYER":
-            self.layers[one.handle] = layer_of(one, self.page, self.version)
+            self.layers[one.handle] = self.as_asked(layer_of(one, self.page, self.version))
         elif one.kind == "BLOCK HEADER":
             self.blocks[one.handle] = block_of(one, self.page)
         elif one.kind == "BLOCK CONTROL":
             self.spaces = {one.target("model"): MODEL, one.target("paper"): PAPER}
         else:
             self.keep(self.attributes, one)
+
+    def take_place(self, one: Object, middles: Dict[int, Middle]) -> None:
+        """Takes the place of an entity of a space; that of a polyline in space is known later."""
+        mode = mode_of(one) or 0
+        if mode in middles and one.kind == "POLYLINE 3D":
+            self.polylines[one.handle] = mode
+        elif mode in middles:
+            middles[mode].take(place_of(one))
 
     def settle(self) -> None:
         """Gives each block its entities, once all are known."""
@@ -233,38 +276,17 @@ def view_of(stock: Stock, space: str, name: Optional[str]) -> View:
     raise ToolError(f"no block has the name {one_line(name)}", Exit.USAGE)
 
 
-class Middle:
-    """The middle of the entities of a space, by the places of all."""
-
-    def __init__(self) -> None:
-        self.xs, self.ys = array("d"), array("d")
-
-    def take(self, place: Optional[Point]) -> None:
-        """Takes the place of an entity."""
-        if place:
-            self.xs.append(place[0])
-            self.ys.append(place[1])
-
-    def point(self) -> Optional[Point]:
-        """The medians, where there is any."""
-        return (statistics.median_low(self.xs), statistics.median_low(self.ys)) if self.xs else None
-
-
-def stock_of(drawing: Drawing, space: str, name: Optional[str]) -> Tuple[Stock, View, Point]:
-    """Goes over a drawing once: what is known of it, what is looked at, and the middle of that."""
+def stock_of(drawing: Drawing, given: Any, is_placed: Callable[[Dict[int, Middle], Head], bool]) -> Tuple[Stock, View, Point]:
+    """Goes over a drawing once: what is known of it, what is looked at by the words of the command line, and the middle of that."""
     middles = {PAPER: Middle(), MODEL: Middle()}
-    with drawing.show(Lists.NUMBERS) as (prefix, found):
-        stock = Stock(code_page(prefix.codepage), prefix.version, class_names(prefix), prefix.count)
+    with drawing.show(Lists.NUMBERS, partial(is_placed, middles)) as (prefix, found):
+        stock = Stock(prefix.page, prefix.version, class_names(prefix), prefix.count, given.layers)
         for one in found:
             stock.take(one)
-            mode = mode_of(one) or 0
-            if mode in middles and one.kind == "POLYLINE 3D":
-                stock.polylines[one.handle] = mode
-            elif mode in middles:
-                middles[mode].take(place_of(one))
+            stock.take_place(one, middles)
     for handle, mode in stock.polylines.items():
         middles[mode].take(stock.first_place(handle))
     stock.settle()
-    view = view_of(stock, space, name)
+    view = view_of(stock, given.space, given.block)
     middle = middles[view.mode].point() if view.mode in middles else None
     return stock, view, middle or (stock.blocks[view.block].near if view.block in stock.blocks else (0.0, 0.0))

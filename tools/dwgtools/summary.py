@@ -7,7 +7,7 @@ from collections import Counter
 from typing import Any, Dict, Iterator, List, Optional
 
 from .drawings import Drawing
-from .encodings import code_page, decoded
+from .encodings import decoded
 from .escapes import one_line
 from .extents import SPACES, Extents
 from .kinds import SILENT
@@ -29,7 +29,7 @@ class Contents:
     """What is counted and kept of a drawing while its objects are read: of entities counts and extents alone."""
 
     def __init__(self, prefix: Prefix) -> None:
-        self.prefix, self.page = prefix, code_page(prefix.codepage)
+        self.prefix, self.page = prefix, prefix.page
         self.classes = class_names(prefix)
         self.names, self.extents, self.layers = Names(), Extents(), Layers(self.page, prefix.version)
         self.kinds: "Counter[str]" = Counter()
@@ -82,11 +82,11 @@ class Contents:
         """All of it, once all is read."""
         self.extents.settle(self.model, self.paper)
         own = {self.model: SPACES[2], self.paper: SPACES[1]}
-        boxes = self.extents.boxes
+        box = self.extents.box
         for said in (*self.blocks, *self.references):
             handle = int(said["handle"], 16)
             said.update(entities=self.members[handle] + (self.members[own[handle]] if handle in own else 0), inserts=self.extents.inserted[handle])
-            said["extents"] = corners_of(boxes.get(handle))
+            said["extents"] = corners_of(box(handle))
         return {
             "version": self.prefix.version, "codepage": self.prefix.codepage, "encoding": self.page,
             "objects": self.prefix.count, "forms": {form: self.forms[form] for form in ("typed", "plain", "raw")},
@@ -94,7 +94,7 @@ class Contents:
             "blocks": self.blocks, "fonts": self.fonts, "references": self.references,
             "other_files": {kind: self.kinds[kind] for kind in OTHER_FILES if kind in self.kinds},
             "extents": {
-                "model": corners_of(boxes.get(SPACES[2])), "paper": corners_of(boxes.get(SPACES[1])),
+                "model": corners_of(box(SPACES[2])), "paper": corners_of(box(SPACES[1])),
                 "unmeasured": dict(sorted(self.extents.unmeasured.items())),
             },
         }  # fmt: skip
@@ -110,7 +110,7 @@ def layers_in(drawing: Drawing) -> Iterator[Dict[str, Any]]:
     """The layers of a drawing, once all of it is read."""
     names = Names()
     with drawing.show(Lists.NONE) as (prefix, found):
-        layers, classes = Layers(code_page(prefix.codepage), prefix.version), class_names(prefix)
+        layers, classes = Layers(prefix.page, prefix.version), class_names(prefix)
         for one in found:
             names.take(one)
             if one.is_entity:

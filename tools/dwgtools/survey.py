@@ -6,7 +6,7 @@ from dataclasses import dataclass, field
 from typing import IO, Dict, Iterable, List, Tuple
 
 from .drawings import Drawing
-from .encodings import code_page, decoded
+from .encodings import decoded
 from .inputs import kept, opened, refuse_changed, state_of
 from .names import class_names, type_name
 from .program import Program
@@ -64,7 +64,7 @@ def surveyed(prefix: Prefix, found: Iterable[Object]) -> Survey:
     """What the text of `show` says, read once."""
     survey = Survey()
     classes = class_names(prefix)
-    page = code_page(prefix.codepage)
+    page = prefix.page
     for one in found:
         survey.kinds[one.handle] = type_name(one, classes)
         survey.raw += one.form == "raw"

@@ -9,30 +9,44 @@ import os
 import sys
 import threading
 import time
-from typing import Dict, Optional
+from dataclasses import dataclass
+from typing import Any, Callable, Dict, Optional, Sequence
 
 from .rows import COLUMNS, Row, as_line, as_object
 from .statuses import Exit, ToolError
 from .walking import Files
 
 
-class Table:
-    """Prints lines as they come, or of one verdict the names alone."""
+@dataclass(frozen=True)
+class Form:
+    """What is told of a file: the columns of its line, and its object of JSON."""
 
-    def __init__(self, as_json: bool, only: Optional[str]) -> None:
-        self._json, self._only = as_json, only
+    columns: Sequence[str]
+    as_object: Callable[[Row], Dict[str, Any]]
+
+
+CHECKED = Form(COLUMNS, as_object)
+
+
+class Table:
+    """Prints lines as they come, of all verdicts or of some, or names alone. All are counted."""
+
+    def __init__(self, form: Form, as_json: bool, only: Optional[Sequence[str]], is_names: bool) -> None:
+        self._form, self._json, self._only, self._is_names = form, as_json, only, is_names
         self.counts: Dict[str, int] = collections.Counter()
-        if not as_json and only is None:
-            self._print("\t".join(COLUMNS).encode("ascii") + b"\n")
+        if not as_json and not is_names:
+            self._print("\t".join(form.columns).encode("ascii") + b"\n")
 
     def add(self, row: Row) -> None:
         """Prints a line."""
         self.counts[row.verdict] += 1
-        if self._only is not None:
-            if row.verdict == self._only:
-                self._print(os.fsencode(row.path) + b"\0")
+        if self._only is not None and row.verdict not in self._only:
+            return
+        if self._is_names:
+            self._print(os.fsencode(row.path) + b"\0")
         else:
-            self._print((json.dumps(as_object(row)) if self._json else as_line(row)).encode("utf-8", "backslashreplace") + b"\n")
+            said = json.dumps(self._form.as_object(row)) if self._json else as_line(row, self._form.columns)
+            self._print(said.encode("utf-8", "backslashreplace") + b"\n")
 
     @staticmethod
     def _print(line: bytes) -> None:

@@ -6,7 +6,7 @@ import re
 from typing import Any, Dict, Iterator, Mapping, Tuple
 
 from .drawings import Drawing
-from .encodings import code_page, decoded
+from .encodings import decoded, unescaped
 from .kinds import INSERTS
 from .names import Names, class_names, type_name
 from .numbered import Numbered
@@ -34,13 +34,15 @@ def name_of(names: Mapping[int, Text], handle: int, page: str) -> str:
 
 
 def texts_in(drawing: Drawing, pattern: "re.Pattern[str]") -> Iterator[Dict[str, Any]]:
-    """The texts in which a pattern is found, once all of a drawing is read."""
+    """The texts in which a pattern is found, as they are or with the letters that are escaped in them, once all of a drawing is read."""
     rows, names = Rows(), Names()
     with drawing.show(Lists.NONE) as (prefix, found):
-        page, classes = code_page(prefix.codepage), class_names(prefix)
+        page, classes = prefix.page, class_names(prefix)
         for one in found:
             names.take(one)
-            for content in filter(pattern.search, contents_of(one, page)):
+            for content in contents_of(one, page):
+                if not pattern.search(content) and not pattern.search(unescaped(content)):
+                    continue
                 rows.put(one.handle, type_name(one, classes), one.target("layer"), content)
     return ({"handle": f"{handle:X}", "kind": kind, "layer": name_of(names, layer, page), "text": content} for handle, kind, layer, content in rows)
 
@@ -49,7 +51,7 @@ def attributes_in(drawing: Drawing) -> Iterator[Dict[str, Any]]:
     """The attributes of inserts in order of handle, once all of a drawing is read."""
     rows, names, inserts = Rows(), Names(), Numbered(2)
     with drawing.show(Lists.NONE) as (prefix, found):
-        page = code_page(prefix.codepage)
+        page = prefix.page
         for one in found:
             names.take(one)
             if one.form == "typed" and one.kind in INSERTS:

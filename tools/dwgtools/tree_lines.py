@@ -8,11 +8,14 @@ from dataclasses import dataclass, field
 from typing import Any, Dict, Optional
 
 from .escapes import one_line
+from .notes import MAPPING
 from .rows import Row
 from .statuses import Exit, Status, ToolError
 
 # What stands in a line, in TSV and in JSON.
 COLUMNS = ("path", "outcome", "detail", "kept", "lost", "found", "findings", "status", "output")
+# What stands for a number that isn't known.
+UNKNOWN = "?"
 
 # What a file ends with that isn't damaged, as `dwg-recover` over it alone would; of those that failed `STATUS_OF_FAILED` has some.
 STATUS_OF = {
@@ -26,6 +29,8 @@ STATUS_OF = {
     "unreadable": Status.READ_FAULT,
     "failed": Exit.NO_PROGRAM,
 }
+# What these are is no failure of the run: they count for its status as any file does that isn't whole.
+NOT_READ = ("other version", "no drawing")
 STATUS_OF_FAILED = {"no memory": Status.NO_MEMORY, "changed while it was checked": Status.READ_FAULT}
 
 
@@ -43,6 +48,16 @@ class Made:
     findings: Optional[int] = None
     parts: Dict[str, int] = field(default_factory=dict)
 
+    @property
+    def is_whole(self) -> bool:
+        """Whether nothing is lost of what it was made of: it is a copy, or all was recovered."""
+        return self.notes is None or (self.lost == 0 and not self.parts)
+
+    @property
+    def is_map_whole(self) -> bool:
+        """Whether all objects are known that there were: else more may be lost than is counted."""
+        return not self.parts.keys() & set(MAPPING)
+
 
 @dataclass
 class Line(Row):
@@ -55,11 +70,12 @@ class Line(Row):
 
     @property
     def numbers(self) -> Dict[str, Optional[int]]:
-        """What is told in numbers: of a drawing that was recovered what the new one has, and of a whole one its own findings."""
+        """What is told in numbers: of a drawing that was recovered what the new one has, and of a whole one its own findings. How many objects were
+        lost isn't known where the map isn't whole."""
         made = self.made
         if made is None or made.notes is None:
             return {"kept": None, "lost": None, "found": None, "findings": self.findings}
-        return {"kept": made.kept, "lost": made.lost, "found": made.found, "findings": made.findings}
+        return {"kept": made.kept, "lost": made.lost if made.is_map_whole else None, "found": made.found, "findings": made.findings}
 
 
 def line_of_row(row: Row) -> Line:
@@ -70,9 +86,10 @@ def line_of_row(row: Row) -> Line:
     return line
 
 
-def parts_told(parts: Dict[str, int]) -> str:
-    """What is said of parts that were lost, beside objects."""
-    return ", ".join(f"{count} {name}s" if count > 1 else name for name, count in parts.items())
+def losses_told(made: Made) -> str:
+    """What is said of parts that were lost, beside objects, and of objects where more may be lost than these."""
+    told = [f"{count} {name}s" if count > 1 else name for name, count in made.parts.items()]
+    return ", ".join(told if made.is_map_whole or not made.lost else [*told, f"at least {made.lost} object{'s' * (made.lost > 1)}"])
 
 
 def as_object(line: Line) -> Dict[str, Any]:
@@ -87,6 +104,8 @@ def as_object(line: Line) -> Dict[str, Any]:
 def as_text(line: Line) -> str:
     """A line of TSV."""
     told = as_object(line)
+    if line.made is not None and not line.made.is_map_whole:
+        told["lost"] = UNKNOWN
     return "\t".join("" if told[name] is None else one_line(str(told[name])) for name in COLUMNS)
 
 
@@ -103,7 +122,7 @@ class TreeTable:
     def add(self, line: Line) -> None:
         """Prints a line."""
         self.counts[line.outcome] = self.counts.get(line.outcome, 0) + 1
-        self.worst = max(self.worst, line.status)
+        self.worst = max(self.worst, int(Status.FOUND) if line.outcome in NOT_READ else line.status)
         self._print(json.dumps(as_object(line)) if self._json else as_text(line))
 
     @staticmethod

@@ -4,7 +4,7 @@ from __future__ import annotations
 
 import os
 from dataclasses import dataclass, fields
-from typing import Any, Callable, Dict, Optional, Set, Tuple
+from typing import Any, Callable, Dict, List, Optional, Set, Tuple
 
 from .escapes import one_line
 from .log import DIGEST, Log, NoLine, absolute_name, is_number
@@ -37,7 +37,8 @@ def read_made(told: Any) -> Optional[Made]:
         raise NoLine
     if not all(name in LOSSES and is_number(count) for name, count in told["parts"].items()):
         raise NoLine
-    return Made(told["output"], told["sha256"], told.get("notes"), *(told.get(name) for name in NUMBERS), parts=told["parts"])
+    numbers: Dict[str, Any] = {name: told.get(name) for name in NUMBERS}
+    return Made(told["output"], told["sha256"], told.get("notes"), parts=told["parts"], **numbers)
 
 
 class TreeLog(Log):
@@ -49,6 +50,7 @@ class TreeLog(Log):
         self._of_content: Dict[str, Made] = {}
         self._own: Dict[Tuple[str, str], Set[str]] = {}
         self._last: Dict[str, Made] = {}
+        self._whole: Set[Tuple[str, str]] = set()
         super().__init__(path, tell_fault)
 
     def take_line(self, told: Dict[str, Any], is_current: bool) -> None:
@@ -66,15 +68,29 @@ class TreeLog(Log):
         self._own.setdefault((made.output, source), set()).add(made.sha256)
         if made.notes is not None:
             self._own.setdefault((made.output + ".notes", source), set()).add(made.notes)
+        if made.is_whole:
+            self._whole.add((made.output, made.sha256))
         self._last[made.output] = made
 
     def recovered_of(self, digest: Optional[str]) -> Optional[Made]:
         """What this program recovered of a content."""
         return self._of_content.get(digest or "")
 
+    def written(self) -> Dict[str, List[str]]:
+        """The names below OUT that runs wrote, and of which files they wrote each."""
+        found: Dict[str, List[str]] = {}
+        for name, source in self._own:
+            if name in self._last:
+                found.setdefault(name, []).append(source)
+        return found
+
     def is_own(self, name: str, digest: str, source: str) -> bool:
         """Whether a run wrote a file of such a name and content below OUT, of this source and no other."""
         return digest in self._own.get((name, absolute_name(source)), ())
+
+    def is_whole(self, name: str, digest: str) -> bool:
+        """Whether a run wrote a file of such a name and content below OUT, and nothing was lost then."""
+        return (name, digest) in self._whole
 
     def add(self, line: Line) -> None:
         """Keeps what is known of a content, and what was written of it, where LOG doesn't have that."""

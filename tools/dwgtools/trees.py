@@ -4,6 +4,7 @@ from __future__ import annotations
 
 import argparse
 import contextlib
+import errno
 import os
 import stat
 from dataclasses import dataclass
@@ -13,7 +14,7 @@ from .escapes import one_line
 from .log import absolute_name
 from .statuses import Exit, ToolError
 from .streams import as_file, is_one_file, outputs, refuse_streams
-from .walking import Named, status_of, walked
+from .walking import Named, Walk, below, status_of, walk_of, walked
 
 # The name of LOG below OUT.
 LOG_NAME = "dwg-recover.log"
@@ -47,14 +48,17 @@ def is_below(path: str, top: Optional[os.stat_result]) -> bool:
 
 
 def refuse_words(out: str, words: Iterable[str]) -> None:
-    """Refuses OUT that is no folder, that stands in what is read or has it, and words that would have one name below OUT."""
+    """Refuses OUT that is no folder, that stands in what is read or has it, words that are pipes, and those that would have one name below OUT."""
     shown, there = one_line(out), status_of(out)
     if os.path.lexists(out) and (there is None or not stat.S_ISDIR(there.st_mode)):
         raise ToolError(f"{shown} is there, and no folder", Exit.EXISTS)
     names: Dict[str, str] = {LOG_NAME: "the log"}
     for word in words:
-        is_folder, called = os.path.isdir(word), one_line(word)
-        if is_folder and is_below(out, status_of(word)):
+        found, called = status_of(word), one_line(word)
+        mode = stat.S_IFREG if found is None else found.st_mode
+        if not stat.S_ISREG(mode) and not stat.S_ISDIR(mode):
+            raise ToolError(f"a tree is of files and folders, and {called} is a pipe or a device", Exit.USAGE)
+        if stat.S_ISDIR(mode) and is_below(out, found):
             raise ToolError(f"{shown} is in {called}, or that itself; name a folder elsewhere", Exit.EXISTS)
         if is_below(word, there):
             raise ToolError(f"{called} is in {shown}, which is written to", Exit.EXISTS)
@@ -64,15 +68,15 @@ def refuse_words(out: str, words: Iterable[str]) -> None:
         names[name] = called
 
 
-def found_below(words: Iterable[str], every: bool) -> Iterator[Planned]:
+def found_below(words: Iterable[str], walk: Walk) -> Iterator[Planned]:
     """The files that the words name, in their order, and of folders those in them."""
     for word in words:
         name = name_of_word(word)
         if not os.path.isdir(word):
             yield Planned(word, None, name)
             continue
-        for one in walked(word, every):
-            rest = one.path[len(word) :].lstrip(os.sep)
+        for one in walked(word, walk):
+            rest = below(one.path, word)
             yield Planned(one.path, one.fault, os.path.join(name, rest) if rest else name)
 
 
@@ -107,24 +111,88 @@ def planned(options: argparse.Namespace) -> List[Planned]:
     refuse_words(options.tree, options.files)
     # What is new when this begins isn't looked at.
     new = outputs(is_new=True)
-    found = [one for one in found_below(options.files, options.all) if not any(is_one_file(own, status_of(one.path)) for own in new)]
+    found = [one for one in found_below(options.files, walk_of(options)) if not any(is_one_file(own, status_of(one.path)) for own in new)]
     if new or outputs(is_new=False):
         outs = [os.path.join(options.tree, one.name) for one in found]
         refuse_streams([as_file(one.path) for one in found], [os.path.join(options.tree, LOG_NAME), *outs, *(out + NOTES for out in outs)])
     return list(without_clashes(found))
 
 
-def refuse_folders(out: str, name: str, make: bool = False) -> None:
-    """Refuses what stands where a folder below OUT is to be and is none, as a link that leads elsewhere; makes folders that aren't there, if told so."""
+def is_gone(path: str) -> bool:
+    """Whether a file is there no more; one of which that can't be told is there."""
+    try:
+        os.lstat(path)
+    except (FileNotFoundError, NotADirectoryError):
+        return True
+    except (OSError, ValueError):
+        pass
+    return False
+
+
+def left_behind(found: Iterable[Planned], written: Dict[str, List[str]], options: argparse.Namespace) -> Iterator[str]:
+    """The outputs, of what runs wrote, that stand in the folders of this one, and whose files aren't there any more: no line of the table is theirs."""
+    names = {one.name for one in found}
+    tops = {name_of_word(word) for word in options.files if os.path.isdir(word)}
+    for name in sorted(written):
+        out = os.path.join(options.tree, name)
+        if name not in names and name.partition(os.sep)[0] in tops and os.path.lexists(out) and all(map(is_gone, written[name])):
+            yield out
+
+
+def refuse_folders(out: str, name: str) -> None:
+    """Refuses what stands where a folder below OUT is to be and is none, as a link that leads elsewhere."""
     for folder in reversed(list(folders_of(name))):
         path = os.path.join(out, folder)
         try:
             mode = os.lstat(path).st_mode
         except FileNotFoundError:
-            if not make:
-                return
-            with contextlib.suppress(FileExistsError):
-                os.mkdir(path)
-            mode = os.lstat(path).st_mode
+            return
         if not stat.S_ISDIR(mode):
-            raise ToolError(f"{path} is there, and no folder", Exit.EXISTS)
+            raise no_folder(path)
+
+
+def no_folder(path: str) -> ToolError:
+    """Why nothing is written below what stands where a folder is to be."""
+    return ToolError(f"{path} is there, and no folder", Exit.EXISTS)
+
+
+@contextlib.contextmanager
+def opened_folder(out: str, one: Planned) -> Iterator[int]:
+    """The folder below OUT that an output is to stand in, opened, and made where it isn't there. No link below OUT is gone through, whenever it
+    comes."""
+    at = os.open(out, OPENED)
+    try:
+        for folder, source in reversed(list(zip(folders_of(one.name), folders_above(one.path)))):
+            inner = opened_below(at, os.path.basename(folder), source, os.path.join(out, folder))
+            os.close(at)
+            at = inner
+        yield at
+    finally:
+        os.close(at)
+
+
+def folders_above(path: str) -> Iterator[str]:
+    """The folders that a file stands in, from the inner one on."""
+    while True:
+        path = os.path.dirname(path)
+        yield path or os.curdir
+
+
+# How a folder is opened. (It need not be readable for this, where the system has a way.)
+OPENED = getattr(os, "O_PATH", os.O_RDONLY) | os.O_DIRECTORY | os.O_CLOEXEC
+
+
+def opened_below(at: int, name: str, source: str, path: str) -> int:
+    """A folder of one that is open. Where it isn't there it is made, no more open than the one that it is of, though who runs the tool can write
+    into it; `path` is what it is called in messages."""
+    try:
+        with contextlib.suppress(FileNotFoundError):
+            return os.open(name, OPENED | os.O_NOFOLLOW, dir_fd=at)
+        found = status_of(source)
+        with contextlib.suppress(FileExistsError):
+            os.mkdir(name, stat.S_IRWXU | (stat.S_IMODE(found.st_mode) & 0o777 if found else 0), dir_fd=at)
+        return os.open(name, OPENED | os.O_NOFOLLOW, dir_fd=at)
+    except OSError as fault:
+        if fault.errno in (errno.ENOTDIR, errno.ELOOP):
+            raise no_folder(path) from None
+        raise

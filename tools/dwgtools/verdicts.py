@@ -2,22 +2,24 @@
 
 from __future__ import annotations
 
+import contextlib
 import errno
 import hashlib
 import os
 import re
 import stat
 from dataclasses import replace
-from typing import IO, Optional, Set
+from typing import IO, Iterator, Optional, Set
 
 from .file import end_of_drawing, has_header, preview_of, sections_of, version_of_rest
-from .inputs import bytes_of, from_begin, kept, pieces_of
+from .inputs import bytes_of, from_begin, kept, pieces_of, private_file
 from .log import Log
 from .looks import inner_drawing, is_text, looks_like, section_of_drawing, zeros_of
 from .notes import Kept, Refusal, TooLarge, read_note
 from .program import Answer, Patience, Program, ProgramFailed, Tally, TookTooLong
 from .rows import Row
 from .statuses import Status
+from .temporary import TemporaryFault
 from .versions import LIMIT, OURS, VERSIONS
 
 VERSION = re.compile(rb"AC[0-9]{4}")
@@ -34,10 +36,12 @@ MOST_SECONDS, MOST_TAKEN = 300, 1200
 class Checker:
     """Checks files with the program, and where there is LOG takes from it what a content is known to be."""
 
-    def __init__(self, program: Program, log: Optional["Log"] = None) -> None:
+    def __init__(self, program: Program, log: Optional["Log"] = None, has_all_digests: bool = False) -> None:
         self.program, self.log = program, log
         # The pipes that the words name, each of which gives what it has once.
         self.pipes: Set[str] = set()
+        # Whether LOG has the SHA-256 of files too that are too large for the program.
+        self.has_all_digests = has_all_digests
 
     def check(self, path: str) -> Row:
         """The line of a file: whatever happens to the file or to the program, there is one."""
@@ -69,15 +73,32 @@ class Checker:
         """The line of an open file."""
         told = os.fstat(file.fileno())
         row.bytes, row.mtime_ns = told.st_size, told.st_mtime_ns
-        known = None
-        if self.log and told.st_size <= LIMIT:
-            row.sha256 = self.digest(file)
-            known = self.log.of_content(row.sha256)
+        with self.content(file, row) as content:
+            return self.found(file, content, row)
+
+    @contextlib.contextmanager
+    def content(self, file: IO[bytes], row: Row) -> Iterator[IO[bytes]]:
+        """What is judged: the file, or where its line has a SHA-256 the very bytes that have it, which nobody can change meanwhile."""
+        size = row.bytes or 0
+        if self.log is None or (size > LIMIT and not self.has_all_digests):
+            yield file
+            return
+        try:
+            copy = private_file()
+        except TemporaryFault as fault:
+            raise not_kept(fault) from None
+        with copy:
+            row.sha256 = self.digest(file, size, copy)
+            yield copy
+
+    def found(self, file: IO[bytes], content: IO[bytes], row: Row) -> Row:
+        """The line of an open file by its content."""
+        known = self.log.of_content(row.sha256) if self.log and row.sha256 else None
         failed = None
         if known:
             row = replace(known, path=row.path, mtime_ns=row.mtime_ns)
         else:
-            failed = self.fault_of_judging(file, row)
+            failed = self.fault_of_judging(content, row)
         after = os.fstat(file.fileno())
         if (after.st_size, after.st_mtime_ns) != (row.bytes, row.mtime_ns):
             raise ProgramFailed("changed while it was checked")
@@ -85,13 +106,19 @@ class Checker:
             raise failed
         return row
 
-    def digest(self, file: IO[bytes]) -> str:
-        """The SHA-256 of a file."""
-        found = hashlib.sha256()
-        for piece in pieces_of(file, LIMIT + 1):
+    def digest(self, file: IO[bytes], size: int, copy: Optional[IO[bytes]] = None) -> str:
+        """The SHA-256 of a file of a size. A copy gets what it is of, no more than is judged."""
+        found, left, room = hashlib.sha256(), size, PREFIX + LIMIT
+        for piece in pieces_of(file, size + 1):
             found.update(piece)
+            left -= len(piece)
+            if copy is not None and room:
+                kept_in(copy, piece[:room])
+                room = max(0, room - len(piece))
             if self.program.is_stopped:
                 raise ProgramFailed("stopped")
+        if left:
+            raise ProgramFailed("changed while it was checked")
         return found.hexdigest()
 
     def fault_of_judging(self, file: IO[bytes], row: Row) -> Optional[ProgramFailed]:
@@ -209,6 +236,21 @@ class Checker:
     def run(self, command: str, file: IO[bytes], output: Optional[IO[bytes]] = None, patience: Optional[Patience] = None) -> Answer:
         """What a command answers of a file from its begin, as long as there is patience."""
         return self.program.run([command], from_begin(file), output, patience)
+
+
+def kept_in(copy: IO[bytes], piece: bytes) -> None:
+    """Adds a piece to a copy; where there is no room, that says nothing of the file."""
+    left = memoryview(piece)
+    try:
+        while left:
+            left = left[os.write(copy.fileno(), left) :]
+    except OSError as fault:
+        raise not_kept(fault) from None
+
+
+def not_kept(fault: OSError) -> ProgramFailed:
+    """Why a file is not checked of which there is no copy."""
+    return ProgramFailed(f"no copy of it can be kept: {fault.strerror}")
 
 
 def kept_by(answer: Answer) -> Optional[str]:

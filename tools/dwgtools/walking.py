@@ -4,11 +4,13 @@ from __future__ import annotations
 
 import argparse
 import collections
+import fnmatch
 import os
+import re
 import sys
 import threading
 from dataclasses import dataclass
-from typing import IO, Deque, Iterable, Iterator, List, Optional, Sequence, Tuple, Union
+from typing import IO, Deque, Iterable, Iterator, List, Optional, Sequence, Set, Tuple, Union
 
 from .statuses import Exit, ToolError
 from .streams import as_file, is_one_file, outputs, refuse_streams
@@ -22,13 +24,77 @@ class Named:
     fault: Optional[str] = None
 
 
+# What the names of drawings end with.
+DRAWINGS = (".dwg",)
+
+
 def is_called_drawing(path: str) -> bool:
     """Whether a file is called as drawings are."""
-    return path.lower().endswith(".dwg")
+    return path.lower().endswith(DRAWINGS)
 
 
-def walked(folder: str, every: bool) -> Iterator[Named]:
-    """The files of a folder and of those in it, in order of name; symbolic links are passed."""
+@dataclass(frozen=True)
+class Walk:
+    """Which files of folders are taken: all, or those with some endings; what is left out by its name; and whether symbolic links are followed."""
+
+    every: bool = False
+    endings: Tuple[str, ...] = DRAWINGS
+    left_out: Tuple["re.Pattern[str]", ...] = ()
+    follow: bool = False
+
+    def takes(self, entry: "os.DirEntry[str]") -> bool:
+        """Whether an entry that is no folder is taken."""
+        return (self.every or entry.name.lower().endswith(self.endings)) and (self.follow or not is_link(entry))
+
+    def leaves_out(self, entry: "os.DirEntry[str]", top: str) -> bool:
+        """Whether an entry is left out, by its name or by its path below the folder that the walk began in."""
+        return bool(self.left_out) and any(one.match(entry.name) or one.match(below(entry.path, top)) for one in self.left_out)
+
+
+def below(path: str, top: str) -> str:
+    """The path of a file below the folder that a walk began in."""
+    return path[len(top) :].lstrip(os.sep)
+
+
+def endings_of(word: str) -> Tuple[str, ...]:
+    """The endings that a word has, parted by commas, each with its point or without."""
+    endings = tuple("." + one.lower()[one.startswith(".") :] for one in word.split(","))
+    if any(len(one) == 1 or os.sep in one for one in endings):
+        raise argparse.ArgumentTypeError(f"{word!r} has what is no ending of a name")
+    return endings
+
+
+def pattern_of(word: str) -> "re.Pattern[str]":
+    """What a pattern of the shell matches; a slash at its end says nothing."""
+    if not word.rstrip(os.sep):
+        raise argparse.ArgumentTypeError(f"{word!r} matches no name")
+    return re.compile(fnmatch.translate(word.rstrip(os.sep)))
+
+
+def add_words(parser: "argparse._ActionsContainer") -> None:
+    """Adds the words of a command line by which files of folders are taken."""
+    parser.add_argument("--all", action="store_true", help="of folders take every file, not only *.dwg")
+    parser.add_argument("--exclude", type=pattern_of, metavar="PATTERN", action="append", default=[], help="of folders leave out what PATTERN of the shell matches, by its name or by its path in the folder that is named, and folders with all that is in them; may be given again")
+    parser.add_argument("--ext", type=endings_of, metavar="EXT[,EXT...]", help="of folders take the files with these endings, in any case, and not *.dwg")
+
+
+def walk_of(options: argparse.Namespace) -> Walk:
+    """Which files of folders the words take."""
+    if options.all and options.ext is not None:
+        raise ToolError("--all takes every file, and --ext some; name one of them", Exit.USAGE)
+    return Walk(options.all, options.ext or DRAWINGS, tuple(options.exclude), getattr(options, "follow", False))
+
+
+def nothing_found(walk: Walk, what: str) -> str:
+    """What is said where no file is found."""
+    taken = ", ".join("*" + ending for ending in walk.endings)
+    return f"nothing was found to {what}" + ("" if walk.every else f"; of folders only {taken} is taken, and --all takes every file")
+
+
+def walked(folder: str, walk: Walk, seen: Optional[Set[Tuple[int, int]]] = None) -> Iterator[Named]:
+    """The files of a folder and of those in it, in order of name. Symbolic links are passed; where they are followed each real folder is walked once,
+    by the first name that leads to it, and none that was seen before."""
+    seen = set() if seen is None else seen
     left = [(folder, True)]
     while left:
         path, is_folder = left.pop()
@@ -36,15 +102,25 @@ def walked(folder: str, every: bool) -> Iterator[Named]:
             yield Named(path)
             continue
         try:
-            left += reversed(list(entries_of(path, every)))
+            if not walk.follow or is_first(path, seen):
+                left += reversed(list(entries_of(path, walk, folder)))
         except OSError as fault:
             yield Named(path, str(fault.strerror))
 
 
-def is_folder(entry: "os.DirEntry[str]") -> bool:
+def is_first(folder: str, seen: Set[Tuple[int, int]]) -> bool:
+    """Whether a real folder wasn't seen, which is seen now."""
+    told = os.stat(folder)
+    key = (told.st_dev, told.st_ino)
+    is_new = key not in seen
+    seen.add(key)
+    return is_new
+
+
+def is_folder(entry: "os.DirEntry[str]", follow: bool) -> bool:
     """Whether an entry is a folder; one of which that can't be told is looked at as a file."""
     try:
-        return entry.is_dir(follow_symlinks=False)
+        return entry.is_dir(follow_symlinks=follow)
     except OSError:
         return False
 
@@ -57,14 +133,14 @@ def is_link(entry: "os.DirEntry[str]") -> bool:
         return False
 
 
-def entries_of(folder: str, every: bool) -> Iterator[Tuple[str, bool]]:
+def entries_of(folder: str, walk: Walk, top: str) -> Iterator[Tuple[str, bool]]:
     """What is to be looked at of a folder, in order of name, and whether it is a folder."""
     with os.scandir(folder) as entries:
-        found = sorted(entries, key=lambda entry: os.fsencode(entry.name))
+        found = sorted((entry for entry in entries if not walk.leaves_out(entry, top)), key=lambda entry: os.fsencode(entry.name))
     for entry in found:
-        if is_folder(entry):
+        if is_folder(entry, walk.follow):
             yield entry.path, True
-        elif not is_link(entry) and (every or is_called_drawing(entry.name)):
+        elif walk.takes(entry):
             yield entry.path, False
 
 
@@ -72,11 +148,18 @@ def entries_of(folder: str, every: bool) -> Iterator[Tuple[str, bool]]:
 MOST_NAME = 1 << 16
 
 
+# How a drawing begins, and no list of names: of such that end with NUL none is empty.
+DRAWING_BEGINS = re.compile(rb"AC[0-9]{4}[\0-\x08\x0e-\x1f]{2}")
+
+
 def names_from(stream: IO[bytes], end: bytes) -> Iterator[str]:
-    """The names that a stream has, each ended by a line feed or NUL, as they come."""
-    rest = b""
+    """The names that a stream has, each ended by a line feed or NUL, as they come. Refused is a drawing."""
+    rest, begin = b"", b""
     try:
-        for piece in iter(lambda: stream.read1(MOST_NAME), b""):  # type: ignore[attr-defined]
+        for piece in iter(lambda: stream.read1(MOST_NAME), b""):  # type: ignore[attr-defined,no-any-return]
+            begin = begin if len(begin) > 8 else begin + piece[:8]
+            if DRAWING_BEGINS.match(begin):
+                raise ToolError("- reads names, a line each; give a drawing as a file or /dev/stdin", Exit.USAGE)
             *names, rest = (rest + piece).split(end)
             rest = rest[:MOST_NAME]
             yield from (os.fsdecode(name[:MOST_NAME]) for name in names if name)
@@ -86,11 +169,12 @@ def names_from(stream: IO[bytes], end: bytes) -> Iterator[str]:
         yield os.fsdecode(rest)
 
 
-def all_named(words: Iterable[str], every: bool, end: bytes) -> Iterator[Named]:
+def all_named(words: Iterable[str], walk: Walk, end: bytes) -> Iterator[Named]:
     """The files that the words name."""
+    seen: Set[Tuple[int, int]] = set()
     for word in words:
         for path in names_from(sys.stdin.buffer, end) if word == "-" else [word]:
-            yield from walked(path, every) if os.path.isdir(path) else [Named(path)]
+            yield from walked(path, walk, seen) if os.path.isdir(path) else [Named(path)]
 
 
 def status_of(path: str) -> Optional[os.stat_result]:
@@ -190,15 +274,15 @@ class Coming(Files):
 
 def can_come(options: argparse.Namespace) -> bool:
     """Whether files can be checked before all are known: none may be what the table or messages are added to, and nothing is held for LOG."""
-    return "-" in options.files and options.resume is None and not outputs(is_new=False)
+    return "-" in options.files and options.log is None and not outputs(is_new=False)
 
 
 def files_of(options: argparse.Namespace) -> Union[Coming, List[Named]]:
     """The files that the words name. Refused is one that the table or messages would be added to, and so are LOG and the names that are read."""
     # What is new when this begins isn't checked.
-    found = without_new(all_named(options.files, options.all, b"\0" if options.null else b"\n"), outputs(is_new=True))
+    found = without_new(all_named(options.files, walk_of(options), b"\0" if options.null else b"\n"), outputs(is_new=True))
     # (LOG and a file may be called by a hyphen, which isn't standard input then)
-    streams = [*([] if options.resume is None else [as_file(options.resume)]), *(word for word in options.files if word == "-")]
+    streams = [*([] if options.log is None else [as_file(options.log)]), *(word for word in options.files if word == "-")]
     if can_come(options):
         refuse_streams(streams)
         return Coming(found)

@@ -10,7 +10,7 @@ import contextlib
 import os
 import signal
 import struct
-from typing import Callable, Deque, Iterator, List, Sequence, Tuple
+from typing import Callable, Deque, Iterator, List, Optional, Sequence, Tuple
 
 from .processes import processors
 from .signals import ENDING, uninterrupted
@@ -44,6 +44,8 @@ class Worker:
             os.close(given)
             os.close(gives)
         self._to, self._back = os.fdopen(to, "wb", buffering=0), os.fdopen(back, "rb")
+        # What is done where it ends by itself, while its number is no other's.
+        self.at_end: Callable[[], None] = lambda: None
 
     @property
     def ends(self) -> Tuple[int, int]:
@@ -67,6 +69,7 @@ class Worker:
 
     def _fault(self) -> BaseException:
         """Why there is no answer."""
+        self.at_end()
         _, code = os.waitpid(self.number, 0)
         self.number = 0
         if os.WIFEXITED(code) and os.WEXITSTATUS(code) == Status.NO_MEMORY:
@@ -126,10 +129,10 @@ class Workers:
             while self._all:
                 self._all.pop().end()
 
-    def put(self, piece: bytes) -> Iterator[Tuple[bytes, bytes]]:
-        """Sends a piece to a worker; gives an earlier piece with what became of it, or where there are no workers this one with nothing."""
+    def put(self, piece: bytes) -> Iterator[Tuple[bytes, Optional[bytes]]]:
+        """Sends a piece to a worker; gives an earlier piece with what became of it, or where there are no workers this one with None."""
         if not self._all:
-            yield piece, b""
+            yield piece, None
             return
         turn = self._all[0]
         if len(self._busy) == len(self._all):

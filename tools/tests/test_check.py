@@ -7,6 +7,7 @@ import errno
 import gzip
 import hashlib
 import io
+import itertools
 import json
 import os
 import pathlib
@@ -35,7 +36,7 @@ from dwgtools.log import LONGEST, MOST_LOOKS, Log, NoLine, read_row, state_of_lo
 from dwgtools.program import Program, program_file
 from dwgtools.rows import RULES, Row, as_object
 from dwgtools.verdicts import Checker
-from dwgtools.walking import Named, walked
+from dwgtools.walking import Named, Walk, walked
 
 made.needs_program()
 
@@ -605,7 +606,7 @@ class Check(Base):
                 yield iter([broken if entry.name == "b.dwg" else entry for entry in entries])
 
         with unittest.mock.patch("os.scandir", scandir):
-            found = list(walked(str(self.folder), False))
+            found = list(walked(str(self.folder), Walk()))
         self.assertEqual(found, [Named(str(self.folder / name)) for name in ("a.dwg", "b.dwg", "c.dwg")])
 
     def test_order(self) -> None:
@@ -826,6 +827,31 @@ class Check(Base):
             ran = tool("dwg-check", "-", "--quiet", *log, given=b"x\0y\n" + b"n" * 5000 + b"\n" + os.fsencode(path) + b"\n")
             self.assertEqual(([row[1] for row in read_table(ran.stdout)], ran.stderr), (["unreadable", "unreadable", "sound"], b""))
 
+    def test_a_drawing_is_no_list_of_names(self) -> None:
+        """As where somebody gives it as other tools take it; it is told once."""
+        said = b"dwg-check: - reads names, a line each; give a drawing as a file or /dev/stdin\n"
+        path, log = self.folder / "a.dwg", self.folder / "log"
+        path.write_bytes(made.made(3))
+        for given in (made.made(3), b"AC1014" + made.made(3)[6:], b"AC1032" + bytes(2000)):
+            for words in ([], ["--null"], ["--resume", log]):
+                ran = tool("dwg-check", *words, "-", given=given)
+                self.assertEqual((ran.returncode, ran.stdout.count(b"\n") > 1, ran.stderr), (64, False, said), words)
+            self.assertEqual(tool("dwg-check", path, "-", given=given).returncode, 64)
+        slow = ["sh", "-c", '(printf AC1015; sleep 0.3; tail -c +7 "$2") | "$1" --quiet -', "sh", str(TOOLS / "dwg-check"), str(path)]
+        ran = subprocess.run(slow, capture_output=True, check=False, env={**os.environ, "DWG": made.PROGRAM})
+        self.assertEqual((ran.returncode, ran.stderr), (64, said))
+        for name, end in (("AC1015", b"\0"), ("AC1015", b"\n"), ("AC1015\n\n", b"\0")):
+            (self.folder / name).write_bytes(made.made(3))
+            ran = subprocess.run([str(TOOLS / "dwg-check"), *(["--null"] if end == b"\0" else []), "-"], input=os.fsencode(name) + end, capture_output=True, check=False, cwd=self.folder, env={**os.environ, "DWG": made.PROGRAM})
+            self.assertEqual(ran.returncode, 0, ran.stderr)
+
+    def test_a_name_is_no_verdict(self) -> None:
+        for words, said in ((["--print0", "plans"], "; a name is to stand after another option or --\n"), (["--print0", "plans", "x"], "changed are\n"), (["--only", "plans", "x"], "changed are\n")):
+            ran = tool("dwg-check", *words)
+            self.assertEqual((ran.returncode, ran.stdout), (64, b""))
+            last = ran.stderr.decode().splitlines(keepends=True)[-1]
+            self.assertTrue(last.startswith(f"dwg-check: argument {words[0]}: 'plans' is no verdict, as sound, ") and last.endswith(said), last)
+
     def test_print0(self) -> None:
         names = ["a b.dwg", "line\nfeed.dwg", "back\\slash.dwg", "tab\t.dwg"]
         paths = self.some(sorted(names))
@@ -1042,6 +1068,28 @@ class Logs(Base):
             pathlib.Path(path).write_bytes(data)
         self.assertEqual(self.verdicts(self.resume("--verify")), sound)
 
+    def test_a_verdict_is_of_the_content_that_has_the_sha_256(self) -> None:
+        """Whoever changes a file while it is checked, and leaves size and time as they are, has LOG keep no verdict of another content."""
+        sound = made.made(5)
+        contents = {"sound": sound, "damaged": flipped(sound, layout(sound).frames[20].place + 4)}
+        for count in (1, 40):
+            for first, other in itertools.permutations(contents):
+                with self.subTest(first=first, count=count):
+                    paths = [self.folder / "d" / f"{index}.dwg" for index in range(count)]
+                    for path in paths:
+                        path.write_bytes(contents[first])
+                    (self.folder / "other").write_bytes(contents[other])
+                    told = [path.stat() for path in paths]
+                    changing = program_that(self.folder, "changing", [f'cd "{self.folder}"; [ "$1" = drill ] || ! mkdir begun 2>/dev/null || for file in d/*.dwg; do touch -r "$file" stamp; cp other "$file"; touch -r stamp "$file"; done', 'exec "$REAL" "$@"'])
+                    self.resume("--program", changing, "--jobs", "1")
+                    self.assertEqual([path.stat().st_mtime_ns for path in paths], [one.st_mtime_ns for one in told])
+                    expected = {hashlib.sha256(data).hexdigest(): verdict for verdict, data in contents.items()}
+                    for row in self.lines()[1:]:
+                        self.assertEqual(row["verdict"].replace("changed", expected[row["sha256"]]), expected[row["sha256"]], row)
+                    self.assertEqual(self.lines()[1]["sha256"], hashlib.sha256(contents[first]).hexdigest())
+                    self.log.unlink()
+                    (self.folder / "begun").rmdir()
+
     def test_verify_of_files_of_another_century(self) -> None:
         """The times of a file system have 64 bits of seconds, where it has them."""
         (path,), had = self.some(["d/a.dwg"]), 0
@@ -1136,7 +1184,8 @@ class Logs(Base):
         words = [str(TOOLS / "dwg-check"), "--program", str(slow), "--quiet", "--jobs", "1", "--resume", str(self.log), str(self.folder / "d")]
         for index in range(30):
             (self.folder / "d" / f"{index:02}.dwg").write_bytes(made.made(5 + index))
-        limit = lambda: resource.setrlimit(resource.RLIMIT_FSIZE, (3000, 3000))
+        # (no drawing has as many bytes, of which a copy is kept while it is checked)
+        limit = lambda: resource.setrlimit(resource.RLIMIT_FSIZE, (4000, 4000))
         with subprocess.Popen(words, stdout=subprocess.PIPE, stderr=subprocess.PIPE, preexec_fn=limit) as started:
             assert started.stderr is not None
             first = started.stderr.readline()

@@ -8,6 +8,8 @@ import itertools
 import json
 import os
 import random
+import re
+import shutil
 import subprocess
 import unittest
 import unittest.mock
@@ -17,7 +19,7 @@ import common
 import spelled
 import test_limits
 import test_pieces
-from made import PROGRAM, TOOLS, dwg, made, needs_program, program_that, tool
+from made import PROGRAM, TOOLS, TOP, dwg, made, needs_program, program_that, tool
 
 from dwgtools.differences import Comparison, Ignored, said_lines
 from dwgtools.names import Names
@@ -337,6 +339,48 @@ class Texts(unittest.TestCase):
             self.assertEqual(told[0], [], text)
             whole += len(plain) == 1
         self.assertGreater(whole, 40)
+
+
+@unittest.skipUnless(shutil.which("git"), "what needs git, which isn't installed")
+class Git(common.InFolder):
+    """A repository with a drawing, by the configuration that docs/RECIPES.md shows."""
+
+    def setUp(self) -> None:
+        super().setUp()
+        shown = re.search(r"```ini\n(.*?)```", (TOP / "docs" / "RECIPES.md").read_text(), re.DOTALL)
+        assert shown is not None
+        config = self.file("config", (shown[1] + "[user]\n\tname = A\n\temail = a@example.org\n").encode())
+        path = f"{TOOLS}{os.pathsep}{os.environ['PATH']}"
+        alone = {"GIT_CONFIG_GLOBAL": str(config), "GIT_CONFIG_NOSYSTEM": "1", "HOME": str(self.folder), "LC_ALL": "C"}
+        self.environment = {**{name: value for name, value in os.environ.items() if not name.startswith("GIT_")}, **alone, "PATH": path, "DWG": PROGRAM}
+        self.top = self.folder / "drawings"
+        self.git("init", "--quiet", str(self.top))
+        (self.top / ".gitattributes").write_text("*.dwg diff=dwg\n")
+        (self.top / "a plan.dwg").write_bytes(made(1, 7))
+        self.git("add", ".")
+        self.git("commit", "--quiet", "--message", "The plan")
+
+    def git(self, *words: str) -> str:
+        """What git says in the repository."""
+        folder = self.top if self.top.exists() else self.folder
+        ran = subprocess.run(["git", *words], cwd=folder, env=self.environment, capture_output=True, check=False)
+        self.assertEqual((ran.returncode, ran.stderr), (0, b""), words)
+        return ran.stdout.decode()
+
+    def test_fields_are_shown(self) -> None:
+        self.assertEqual(self.git("show", "--textconv", "HEAD:a plan.dwg"), tool("dwg-json", "--pretty", self.file("old.dwg", made(1, 7))).stdout.decode())
+        self.assertIn('+  "object": "31",', self.git("log", "--patch").splitlines())
+        (self.top / "a plan.dwg").write_bytes(made(2, 7))
+        found = self.git("diff").splitlines()
+        self.assertEqual([line for line in found if line.startswith(("+  \"object\"", "-  \"object\"", "Binary"))], ['+  "object": "32",'])
+        self.assertIn('+  "kind": "POINT",', found)
+        self.assertTrue(any(line.startswith("@@") and line.endswith('@@ "object": "18",') for line in found), found)
+
+    def test_drawings_are_compared(self) -> None:
+        (self.top / "a plan.dwg").write_bytes(made(2, 7))
+        expected = tool("dwg-diff", self.file("old.dwg", made(1, 7)), self.top / "a plan.dwg").stdout.decode()
+        self.assertIn("added object 32 POINT", expected)
+        self.assertEqual(self.git("difftool", "--no-prompt", "--tool", "dwg"), expected)
 
 
 if __name__ == "__main__":

@@ -11,7 +11,7 @@ import tempfile
 import unittest
 
 import made
-from made import TOOLS, TOP
+from made import TOOLS
 
 CHECK = made.module(TOOLS / "check-docs", "check_docs")
 LAST = re.compile(r"^(\d+) examples? are as shown, (\d+) aren't, (\d+) not run \(make, rt ci\)$")

@@ -5,6 +5,7 @@ from __future__ import annotations
 import collections
 import csv
 import io
+import itertools
 import json
 import math
 import os
@@ -13,7 +14,7 @@ import sys
 import unittest
 import unittest.mock
 from pathlib import Path
-from typing import Any, Dict, List, Sequence, Tuple
+from typing import Any, Dict, Iterator, List, Sequence, Tuple
 
 import common
 import made
@@ -23,7 +24,7 @@ import test_limits
 import test_safety
 from made import TOOLS, flipped, layout, made as drawn, needs_program, program_that, tool
 
-from dwgtools import spools
+from dwgtools import spools, walking
 from dwgtools.previews import bitmap_file
 from dwgtools.program import Program
 from dwgtools.statuses import ToolError
@@ -114,6 +115,22 @@ class Summary(common.InFolder):
         main = f"001{int(overlaid)}0" + spelled.reals((0, 0, 0)) + spelled.text(path) + spelled.byte(0) + spelled.text(b"") + spelled.long(0)
         one.entry(49, handle, name, main, [(5, 0), (3, 0), (3, 0), (5, 0)])
 
+    def test_a_long_name_of_a_class_is_told_once(self) -> None:
+        """With each layer that has such an entity it would make hundreds of megabytes of a small drawing."""
+        for length, with_layers in ((255, None), (256, "ENTITY 500")):
+            name, count = "K" * length, 20
+            classes = f'classes 1\nclass 500 version 0 proxy 0 item 498 app "A" cpp "B" dxf "{name}"\n'
+            text = test_limits.PREFIX.format(count=count).replace("classes 0\n", classes)
+            text += "".join(f"object {at:X} ENTITY plain 500\n{test_limits.COMMON.format(mode=2).replace('5.10', f'5.{at:X}')}" for at in range(0x100, 0x100 + count))
+            showing = program_that(self.folder, "showing", [f'[ "$1" != show ] || exec cat "{self.file("text", text.encode())}"'])
+            with unittest.mock.patch.object(made, "PROGRAM", str(showing)):
+                found = told(self.file("a.dwg", b"AC1015"))
+                status, out, said = answer("--layers", "--json", self.file("a.dwg", b"AC1015"))
+            kinds = {with_layers or name: 1}
+            self.assertEqual((found["kinds"], found["extents"]["unmeasured"]), ({name: count}, {name: count}))
+            self.assertEqual([layer["kinds"] for layer in found["layers"]], [kinds] * count)
+            self.assertEqual((status, said, [json.loads(line)["kinds"] for line in out.splitlines()]), (0, "", [kinds] * count))
+
     def test_fonts_and_references(self) -> None:
         one = spelled.Drawing()
         style = "00" + spelled.reals([0, 1, 0]) + spelled.byte(0) + spelled.real(0) + spelled.text(b"romans.shx") + spelled.text(b"gro\xdf.shx")
@@ -137,6 +154,45 @@ class Summary(common.InFolder):
         # The plan is 400 wide and 300 high; the door, inserted at 100, has a leaf of 90 and swings by a quarter of a turn.
         self.assertEqual((found["extents"]["model"], found["blocks"][2]["entities"]), ([[0.0, 0.0], [400.0, 300.0]], 2))
         self.assertTrue(all(abs(a - b) < 1e-9 for a, b in zip(sum(found["blocks"][2]["extents"], []), (0, 0, 90, 90))))
+
+
+Point = Tuple[float, float, float]
+
+
+def turn(begin: float = 0.0, end: float = 2 * math.pi) -> List[Tuple[float, float]]:
+    """Points of a circle of radius 1 between two angles, close to each other, and those on its axes."""
+    quarters = [math.pi / 2 * at for at in range(5) if begin <= math.pi / 2 * at <= end]
+    return [(math.cos(angle), math.sin(angle)) for angle in [begin + (end - begin) * part / 4000 for part in range(4001)] + quarters]
+
+
+def placed(normal: Sequence[float], x: float, y: float, z: float) -> Point:
+    """Where a point comes to lie that is told in a plane: by the rule of the arbitrary axis."""
+    size = math.sqrt(sum(part * part for part in normal))
+    n = [part / size for part in normal]
+    first = crossed((0, 1, 0) if abs(n[0]) < 1 / 64 and abs(n[1]) < 1 / 64 else (0, 0, 1), n)
+    length = math.sqrt(sum(part * part for part in first))
+    first = [part / length for part in first]
+    a, b, c = (x * one + y * other + z * up for one, other, up in zip(first, crossed(n, first), n))
+    return a, b, c
+
+
+def crossed(one: Sequence[float], other: Sequence[float]) -> List[float]:
+    """The cross product."""
+    return [one[1] * other[2] - one[2] * other[1], one[2] * other[0] - one[0] * other[2], one[0] * other[1] - one[1] * other[0]]
+
+
+def through(
+    normal: Sequence[float], place: Point, scale: Point, rotation: float, base: Point, points: Sequence[Sequence[float]], apart: Tuple[float, float] = (0.0, 0.0)
+) -> List[Point]:  # fmt: skip
+    """Where an insert, and its copies farthest away, put the corners of the box around points of its block."""
+    found = []
+    for corner in itertools.product(*((min(some), max(some)) for some in zip(*points))):
+        x, y, z = ((value - least) * by for value, least, by in zip(corner, base, scale))
+        for across, up in itertools.product((0.0, apart[0]), (0.0, apart[1])):
+            u, v = x + across, y + up
+            turned = u * math.cos(rotation) - v * math.sin(rotation), u * math.sin(rotation) + v * math.cos(rotation)
+            found.append(placed(normal, place[0] + turned[0], place[1] + turned[1], place[2] + z))
+    return found
 
 
 class ExtentsOf(common.InFolder):
@@ -199,6 +255,61 @@ class ExtentsOf(common.InFolder):
         found = self.expect(one, (-2, 1200, 0, 1204))
         self.assertEqual([[round(value, 9) for value in corner] for corner in found["extents"]["paper"]], [[0, 0], [102, 8]])
         self.assertEqual([(said["name"], said["inserts"], said["extents"]) for said in found["blocks"][3:]], [("OUTER", 2, [[100.0, 0.0], [102.0, 1.0]]), ("UNUSED", 0, [[900.0, 0.0], [901.0, 1.0]])])
+
+    def test_tilted_inserts(self) -> None:
+        """What is high in a block is seen where its insert is tilted: by corners of boxes in three dimensions, by a computation of this file."""
+        tilted, across = (0.3, -0.5, 0.7), (0.01, 0.005, -1.0)
+        spelled_ones: List[Tuple[Any, Any]] = [
+            (lambda one, to: one.line((1, 2, 3), (-4, 5, 9), owner=to), [(1, 2, 3), (-4, 5, 9)]),
+            (lambda one, to: one.point((7, 8, 9), owner=to), [(7, 8, 9)]),
+            (lambda one, to: one.circle((10, 20, 5), 3.0, owner=to), [(10 + 3 * x, 20 + 3 * y, 5) for x, y in turn()]),
+            (lambda one, to: one.circle((10, 20, 5), 3.0, tilted, owner=to), [placed(tilted, 10 + 3 * x, 20 + 3 * y, 5) for x, y in turn()]),
+            (lambda one, to: one.arc((1, 2, 5), 4.0, 0.5, 2.5, across, owner=to), [placed(across, 1 + 4 * x, 2 + 4 * y, 5) for x, y in turn(0.5, 2.5)]),
+            (lambda one, to: one.ellipse((1, 2, 3), (0, 4, 3), 0.5, 0.0, 2 * math.pi, (1.0, 0.0, 0.0), owner=to), [(1, 2 + 4 * x - 1.5 * y, 3 + 3 * x + 2 * y) for x, y in turn()]),
+            (lambda one, to: one.ray((5, 6, 7), (1, 0, 0), owner=to), [(5, 6, 7)]),
+            (lambda one, to: one.xline((5, 6, -7), (1, 0, 0), owner=to), [(5, 6, -7)]),
+            (lambda one, to: one.polyline([(0, 0), (6, 0)], [-1.0, 0.0], elevation=2.0, normal=tilted, owner=to), [placed(tilted, 3 + 3 * x, 3 * y, 2) for x, y in turn(0.0, math.pi)]),
+            (lambda one, to: one.polyline([(0, 0), (6, 0)], width=2.0, elevation=2.0, owner=to), [(0, -1, 2), (6, 1, 2)]),
+            (lambda one, to: one.polyline([(0, 0), (6, 0)], width=2.0, elevation=2.0, normal=tilted, owner=to), [placed(tilted, x, y, 2) for x in (0, 6) for y in (-1, 1)]),
+            (lambda one, to: one.solid([(0, 0), (4, 0), (0, 3), (4, 3)], 2.5, tilted, owner=to), [placed(tilted, x, y, 2.5) for x in (0, 4) for y in (0, 3)]),
+            (lambda one, to: one.face([(0, 0, 1), (4, 0, 1), (4, 3, 5), (0, 3, -2)], owner=to), [(0, 0, 1), (4, 3, 5), (0, 3, -2)]),
+            (lambda one, to: one.text(b"A", (3, 4), 1.0, {"elevation": 6.0, "normal": tilted}, owner=to), [placed(tilted, 3, 4, 6)]),
+            (lambda one, to: one.insert(0x21, (1, 2, 3), (2.0, 3.0, 4.0), 0.4, tilted, owner=to), through(tilted, (1, 2, 3), (2, 3, 4), 0.4, (1, 1, 1), [(5, 6, 7), (8, 6, 9)])),
+            (self.in_space, [(1, 2, 3), (-3, 9, 8)]),
+        ]  # fmt: skip
+        for spell, points in spelled_ones:
+            for normal, rotation in ((tilted, 0.7), (across, -0.2), ((0.0, 0.0, 1.0), 0.3), ((1.0, 0.0, 0.0), 0.0)):
+                one = spelled.Drawing()
+                one.block(0x20, b"HIGH", (0.5, -0.25, 2.0))
+                one.block(0x21, b"INNER", (1.0, 1.0, 1.0))
+                one.line((5, 6, 7), (8, 6, 9), owner=0x21)
+                spell(one, 0x20)
+                one.minsert(0x20, (10, 20, 30), (3, 2), (50.0, 7.0), (1.5, -2.0, 3.0), rotation, normal)
+                found = told(self.file("a.dwg", one.file()))["extents"]
+                corners = through(normal, (10, 20, 30), (1.5, -2.0, 3.0), rotation, (0.5, -0.25, 2.0), points, (100.0, 7.0))
+                expected = [min(x for x, _, _ in corners), min(y for _, y, _ in corners), max(x for x, _, _ in corners), max(y for _, y, _ in corners)]
+                self.assertEqual(found["unmeasured"], {})
+                # (points of arcs stand close to where these are farthest)
+                for value, wanted in zip(sum(found["model"], []), expected):
+                    self.assertAlmostEqual(value, wanted, delta=2e-5 if len(points) > 90 else 1e-9)
+
+    @staticmethod
+    def in_space(one: spelled.Drawing, owner: int) -> None:
+        """A polyline in space in a block, the first vertex of which stands before it."""
+        one.vertex((1, 2, 3), 0x300, handle=0x200)
+        one.polyline_in_space(0x200, 0x400, handle=0x300, owner=owner)
+        one.vertex((-3, 9, 8), 0x300, handle=0x400)
+
+    def test_how_high_something_is_changes_no_insert_that_is_not_tilted(self) -> None:
+        one = spelled.Drawing()
+        one.block(0x20, b"HIGH")
+        one.line((0, 0, 1e14), (1, 1, -1e14), owner=0x20)
+        one.insert(0x20, (5, 5, 1e14), (1.0, 1.0, 1e9))
+        self.assertEqual(self.expect(one, (5, 5, 6, 6))["extents"]["unmeasured"], {})
+        # In a block, whose insert may be tilted, what is too high is told.
+        one.block(0x21, b"OUTER")
+        one.insert(0x20, (5, 5, 0), (1.0, 1.0, 1e9), owner=0x21)
+        self.assertEqual(self.expect(one, (5, 5, 6, 6))["extents"]["unmeasured"], {"INSERT": 1})
 
     def test_what_cannot_be_measured_is_told(self) -> None:
         one = spelled.Drawing()
@@ -295,9 +406,9 @@ class Tables(common.InFolder):
         self.assertEqual(first, {"file": str(path), "insert": "300", "block": "DOOR", "layer": "WALLS", "tag": "NO", "value": "A,1\n"})
 
 
-def bitmap(bits: int, used: int = 0, compression: int = 0, length: int = 40, after: bytes = b"pixels") -> bytes:
+def bitmap(bits: int, used: int = 0, compression: int = 0, length: int = 40, after: bytes = b"sixteen of pixels", size: Tuple[int, int] = (2, 2)) -> bytes:
     """A bitmap without the header of a file, whose palette and masks are to be put before `after` by who asks."""
-    return struct.pack("<IiiHHIIiiII", length, 2, 2, 1, bits, compression, 0, 0, 0, used, 0) + bytes(length - 40) + after
+    return struct.pack("<IiiHHIIiiII", length, *size, 1, bits, compression, 0, 0, 0, used, 0) + bytes(length - 40) + after
 
 
 class Previews(common.InFolder):
@@ -315,15 +426,23 @@ class Previews(common.InFolder):
     def test_where_the_bits_begin(self) -> None:
         core = struct.pack("<IHHHH", 12, 2, 2, 1, 8)
         for data, begin in (
-            (bitmap(24), 40), (bitmap(8, after=bytes(1030)), 40 + 1024), (bitmap(4, after=bytes(70)), 40 + 64), (bitmap(1, after=bytes(9)), 48),
-            (bitmap(8, used=3, after=bytes(20)), 52), (bitmap(24, used=2, after=bytes(20)), 48), (bitmap(16, compression=3, after=bytes(20)), 52),
-            (bitmap(32, compression=6, after=bytes(20)), 56), (bitmap(32, compression=3, length=108), 108), (bitmap(8, length=124, after=bytes(1030)), 124 + 1024),
-            (core + bytes(800), 12 + 768), (struct.pack("<IHHHH", 12, 2, 2, 1, 24) + bytes(12), 12),
+            (bitmap(24), 40), (bitmap(8, after=bytes(1030)), 40 + 1024), (bitmap(4, after=bytes(70)), 40 + 64), (bitmap(1, after=bytes(13)), 48),
+            (bitmap(8, used=3, after=bytes(20)), 52), (bitmap(24, used=2, after=bytes(24)), 48), (bitmap(16, compression=3, after=bytes(20)), 52),
+            (bitmap(32, compression=6, after=bytes(32)), 56), (bitmap(32, compression=3, length=108), 108), (bitmap(8, length=124, after=bytes(1030)), 124 + 1024),
+            (core + bytes(800), 12 + 768), (struct.pack("<IHHHH", 12, 2, 2, 1, 24) + bytes(14), 12),
+            # (rows may go from top to bottom, the last may end with its last pixel, and of compressed bits it isn't told how many there are)
+            (bitmap(24, after=bytes(14), size=(2, -2)), 40), (bitmap(8, compression=1, after=bytes(1025), size=(99, 99)), 40 + 1024),
         ):  # fmt: skip
             found = bitmap_file(data)
             assert found is not None
             self.assertEqual(found, b"BM" + struct.pack("<IHHI", len(found), 0, 0, 14 + begin) + data)
         self.assertEqual(bitmap_file(b"BM" + bytes(60)), b"BM" + bytes(60))
+        # Without bits, or without all of them, it isn't whole; nor is one without width or height.
+        for data in (
+            bitmap(24, after=b""), bitmap(8, after=bytes(1024)), bitmap(24, after=bytes(13)), bitmap(8, after=bytes(1024 + 5)), bitmap(8, compression=1, after=bytes(1024)),
+            bitmap(24, size=(0, 2)), bitmap(24, size=(2, 0)), bitmap(24, size=(-2, 2)), bitmap(24, size=(1 << 30, 1 << 30)), core + bytes(768 + 5), core[:4] + bytes(2) + core[6:] + bytes(800),
+        ):  # fmt: skip
+            self.assertIsNone(bitmap_file(data))
         for data in (b"", b"\x28", bitmap(8, after=bytes(1023)), bytes(100), bitmap(24)[:39], core[:11], bitmap(24, used=1 << 31)):
             self.assertIsNone(bitmap_file(data))
 
@@ -366,8 +485,9 @@ class Previews(common.InFolder):
             (self.with_pictures((1, bytes(80))), 66, "it has no preview picture"),
         ):
             self.assertEqual(answer("--preview", out, path), (status, b"", f"{path}: {said}\n"))
-        path = self.with_pictures((2, bitmap(8)))
-        self.assertEqual(answer("--preview", out, path), (66, b"", f"{path}: its picture is no whole BMP\n"))
+        for picture in (bitmap(8), bitmap(24, after=b"")):
+            path = self.with_pictures((2, picture))
+            self.assertEqual(answer("--preview", out, path), (66, b"", f"{path}: its picture is no whole BMP\n"))
         bad = self.file("bad.dwg", drawn(3, 1)[:60])
         self.assertEqual(answer("--preview", out, bad), (3, b"", f"{bad}: refused: header 0 at 60: short\n"))
         self.assertEqual(answer("--preview", path, "--force", path)[0], 73)
@@ -381,16 +501,29 @@ class Runs(common.InFolder):
         path = self.file("a.dwg", drawn(3, 1))
         for words, why in (
             (["--nothing"], "unrecognized arguments: --nothing"), (["-", "-"], "only one of the drawings can be standard input"),
-            (["--fixed"], "--fixed and --ignore-case are of --texts"), (["--ignore-case", "--layers"], "--fixed and --ignore-case are of --texts"),
+            (["--fixed", "pump"], "--fixed is of --texts: write --texts PATTERN --fixed FILE"), (["--ignore-case", "--layers"], "--ignore-case is of --texts: write --texts PATTERN --ignore-case FILE"),
+            (["--fixed", "--ignore-case"], "--fixed and --ignore-case are of --texts: write --texts PATTERN --fixed --ignore-case FILE"),
+            (["--layers=WALLS"], "--layers takes no name, and prints all layers of each FILE: write --layers FILE"),
+            (["--attributes=NO"], "--attributes takes no name, and prints all attributes of each FILE: write --attributes FILE"),
             (["--picture", "1"], "--picture is of --preview"), (["--preview", "x", "--picture", "0"], "argument --picture: '0' is no number from 1 to 999"),
             (["--preview", "x", path], "--preview takes one drawing, and neither --json nor --output"),
             (["--preview", "x", "--json"], "--preview takes one drawing, and neither --json nor --output"),
+            (["--preview", "x", "--follow"], "--preview takes one drawing, and no folder"), (["--all", "--ext", "dwg"], "--all takes every file, and --ext some; name one of them"),
             (["--texts", "(", "--json"], "PATTERN is no regular expression: missing ), unterminated subpattern at position 0"),
             (["--layers", "--attributes"], "argument --attributes: not allowed with argument --layers"),
         ):  # fmt: skip
             status, out, said = answer(*words, path)
             self.assertEqual((status, out, said.splitlines()[-1]), (64, b"", why), words)
         self.assertEqual(answer("--texts", "(", "--fixed", path)[0], 1)
+        # What is no file may be meant as a name; the others are told all the same.
+        told = answer("--layers", path)[1]
+        for words, said in (
+            (["--layers", "WALLS"], "WALLS: No such file or directory; --layers takes no name, and prints all layers of each FILE"),
+            (["--layers", "gone.dwg"], "gone.dwg: No such file or directory"), (["--layers", "--", "--layers=x"], "--layers=x: No such file or directory; --layers takes no name, and prints all layers of each FILE"),
+        ):  # fmt: skip
+            self.assertEqual(answer(*words, path), (4, told, f"dwg-info: {said}\n"))
+        self.assertEqual(answer("--attributes", "NO", path)[::2], (4, "dwg-info: NO: No such file or directory; --attributes takes no name, and prints all attributes of each FILE\n"))
+        self.assertEqual(answer("--texts", "T", "WALLS", path)[2], "dwg-info: WALLS: No such file or directory\n")
 
     def test_one_bad_file_never_ends_a_run(self) -> None:
         good, last = self.file("a.dwg", drawn(5, 1)), self.file("z.dwg", drawn(6, 1))
@@ -399,9 +532,9 @@ class Runs(common.InFolder):
             expected = [answer(*words, path)[1] for path in (good, last)]
             if expected[0].startswith(b"file,"):
                 expected[1] = expected[1].partition(b"\n")[2]
-            status, out, said = answer(*words, good, bad, self.folder / "none", self.folder, last)
+            status, out, said = answer(*words, good, bad, self.folder / "none", last)
             self.assertEqual((status, out), (3, b"".join(expected)), words)
-            self.assertRegex(said, r"\Adwg-info: .*/b\\x1b.dwg: refused: objects \d+ at \d+: check\ndwg-info: .*/none: No such file or directory\ndwg-info: .*: Is a directory\n\Z")
+            self.assertRegex(said, r"\Adwg-info: .*/b\\x1b.dwg: refused: objects \d+ at \d+: check\ndwg-info: .*/none: No such file or directory\n\Z")
         # The first that fails tells the status, whatever it is, and nothing else of a text that isn't found.
         self.assertEqual(answer("--texts", "nowhere", good, self.folder / "none", bad)[0], 4)
         out = self.folder / "out"
@@ -410,6 +543,11 @@ class Runs(common.InFolder):
         self.assertEqual(answer("--json", good, "-o", out)[0], 73)
         self.assertEqual(answer("--json", last, "-o", out, "--force")[0], 0)
         self.assertEqual(out.read_bytes(), answer("--json", last)[1])
+        # Where nothing can be told nothing is written.
+        for words in ([], ["--json"], ["--layers"]):
+            self.assertEqual(answer(*words, bad, "-o", self.folder / "new")[0], 3)
+            self.assertEqual(answer(*words, bad, self.folder / "none", "-o", out, "--force")[0], 3)
+        self.assertEqual((out.read_bytes(), (self.folder / "new").exists()), (answer("--json", last)[1], False))
         self.assertEqual(answer("--json", last, good, "-o", bad, "--force")[0], 0)
 
     def test_a_program_that_fails_on_one_file(self) -> None:
@@ -420,9 +558,26 @@ class Runs(common.InFolder):
         self.assertEqual((ran.returncode, ran.stdout, ran.stderr.decode()), (69, answer("--layers", good)[1], f"dwg-info: {other}: the program dwg gave no answer: killed by signal 9\n"))
 
     def test_foreign_files(self) -> None:
-        paths = [self.file(name, data) for name, data in common.foreign().items()]
+        """What a file is that is no drawing that is read, in the words of dwg-check, for which the program isn't asked."""
+        rest = ", unless dwg-check says that it was one"
+        zip_, cut = b"PK\x03\x04" + bytes(range(256)), drawn(3, 1)[6:]
+        files = {**common.foreign(), "zip.dwg": zip_, "zeros": bytes(700), "AC1018": b"AC1018" + bytes(700), "AC1099": b"AC1099" + bytes(99), "in.dwg": b"MAC\0" + drawn(3, 1), "cut": cut}
+        paths = [self.file(name, data) for name, data in files.items()]
+        checked = [line.split("\t") for line in tool("dwg-check", "--quiet", *paths).stdout.decode().splitlines()[1:]]
+        expected = [f"dwg-info: {path}: {verdict}: {detail}{rest if path.endswith(('zeros', 'random')) else ''}" for path, verdict, detail, *_ in checked]
         status, out, said = answer(*paths)
-        self.assertEqual((status, out, said.count("\n"), said.count(": refused: header 0 at ")), (3, b"", len(paths), len(paths)))
+        self.assertEqual((status, out, said.splitlines()), (3, b"", expected))
+        for name, told in (("AC1018", "other version: AC1018 2004"), ("zip.dwg", "no drawing: zip archive"), ("AC1032", "damaged: header 0 at 0: version (the rest of the header is that of AC1015)")):
+            for words in ((name,), ("--preview", "-", name)):
+                path = self.folder / words[-1]
+                self.assertEqual(answer(*words[:-1], path)[2].replace("dwg-info: ", ""), f"{path}: {told}\n", words)
+        ran = tool("dwg-info", "--texts", "T", given=zip_)
+        self.assertEqual((ran.returncode, ran.stderr), (3, b"dwg-info: standard input: no drawing: zip archive\n"))
+        # In a folder such files are counted, and neither they nor the program are asked what they were.
+        counted = program_that(self.folder, "counted", [f'echo "$1" >> {self.folder}/runs', 'exec "$REAL" "$@"'])
+        ran = tool("dwg-info", "--program", counted, "--texts", "T", "--all", "--exclude", "runs", "--exclude", "counted", self.folder)
+        self.assertEqual((ran.returncode, ran.stderr.decode()), (3, f"dwg-info: {len(paths)} of {len(paths)} files in folders are left out; dwg-check says why\n"))
+        self.assertEqual((self.folder / "runs").read_text(), "drill\n")
 
     def test_streams(self) -> None:
         path = self.file("a\udcff.dwg", drawn(5, 1))
@@ -439,18 +594,110 @@ class Runs(common.InFolder):
         self.assertEqual(len(list(self.folder.iterdir())), 1)
 
 
-class AsTheOthers(unittest.TestCase):
-    """What goes over all tools goes over this one."""
+class Folders(common.InFolder):
+    """Runs over folders, as dwg-check walks them."""
 
-    def test_safety(self) -> None:
-        writers = {"dwg-info": lambda source, out: [source, "--output", out]}
-        outputs = ["test_an_output_that_is_the_input_by_any_name_is_refused", "test_force_replaces_regular_files_alone", "test_an_output_that_is_there_is_refused_before_the_work"]
-        ends = ["test_variables_of_python_are_not_heeded", "test_the_name_of_a_tool_colours_no_terminal", "test_an_interrupt_that_reaches_the_program_first"]
-        suite = unittest.TestSuite([*map(test_safety.Outputs, outputs), *map(test_safety.Ends, ends)])
-        with unittest.mock.patch.dict(test_safety.WRITERS, writers, clear=True), unittest.mock.patch.dict(test_safety.ALL, {"dwg-info": lambda source: [source]}, clear=True):
-            result = unittest.TestResult()
-            suite.run(result)
-        self.assertEqual((result.testsRun, result.errors, result.failures), (6, [], []))
+    def setUp(self) -> None:
+        super().setUp()
+        self.top = self.folder / "plans"
+        damaged = flipped(drawn(5, 1), layout(drawn(5, 1)).frames[9].place + 4)
+        for name, data in (("b.dwg", drawn(5, 1)), ("a/z.DWG", drawn(6, 1)), ("a/bad.dwg", damaged), ("a/new.dwg", b"AC1032" + bytes(99)), ("a/old/c.dwg", drawn(7, 1)), ("a/t.dwt", drawn(4, 1)), ("none.dwg", b"%PDF-")):
+            (self.top / name).parent.mkdir(parents=True, exist_ok=True)
+            self.file(f"plans/{name}", data)
+        self.whole = [self.top / name for name in ("a/old/c.dwg", "a/z.DWG", "b.dwg")]
+        self.left_out = "dwg-info: 3 of 6 files in folders are left out; dwg-check says why\n"
+
+    def test_all_that_is_told(self) -> None:
+        for words in ([], ["--json"], ["--texts", "T"], ["--layers"], ["--attributes"], ["--layers", "--json"]):
+            self.assertEqual(answer(*words, self.top), (0, answer(*words, *self.whole)[1], self.left_out), words)
+        self.assertEqual(len(tool("dwg-check", "--quiet", self.top).stdout.splitlines()), 1 + 6)
+        ran = test_safety.in_bash('cd "$1" && dwg-info --layers plans', self.folder)
+        self.assertEqual((ran.returncode, [line.split(",")[0] for line in ran.stdout.decode().splitlines()[1::2]]), (0, ["plans/a/old/c.dwg", "plans/a/z.DWG", "plans/b.dwg"]))
+
+    def test_which_files_are_taken(self) -> None:
+        (self.top / "link").symlink_to("a/old")
+        (self.top / "link.dwg").symlink_to("b.dwg")
+        (self.top / "nothing.dwg").symlink_to("nowhere")
+        for words, names in (
+            (["--ext", "dwt"], ["a/t.dwt"]), (["--exclude", "a"], ["b.dwg"]), (["--exclude", "a/old", "--exclude", "[b-]*.dwg"], ["a/z.DWG"]),
+            (["--all"], ["a/old/c.dwg", "a/t.dwt", "a/z.DWG", "b.dwg"]), (["--follow"], ["a/old/c.dwg", "a/z.DWG", "b.dwg", "link.dwg"]), (["--follow", "--exclude", "a"], ["b.dwg", "link/c.dwg", "link.dwg"]),
+        ):  # fmt: skip
+            status, out, _ = answer("--json", *words, self.top)
+            self.assertEqual((status, [json.loads(line)["file"] for line in out.splitlines()]), (0, [str(self.top / name) for name in names]), words)
+        out = answer("--json", self.top / "b.dwg", self.top / "a" / "old", self.top / "b.dwg")[1]
+        self.assertEqual([json.loads(line)["file"] for line in out.splitlines()], [str(self.top / name) for name in ("b.dwg", "a/old/c.dwg", "b.dwg")])
+        self.assertEqual(answer("--ext", "bak", self.top), (66, b"", "nothing was found to look at; of folders only *.bak is taken, and --all takes every file\n"))
+        self.assertEqual(answer("--preview", "-", self.top)[0], 64)
+
+    def test_statuses(self) -> None:
+        """As of a search by grep: found is found; else nothing says that there is none where not all is searched."""
+        self.assertEqual([answer("--texts", "T", self.top)[0], answer("--texts", "nowhere", self.top)[0], answer("--texts", "nowhere", self.top / "a" / "old")[0]], [0, 3, 1])
+        only = self.folder / "only"
+        only.mkdir()
+        (only / "x.dwg").symlink_to("nowhere")
+        self.assertEqual(answer("--layers", only)[0], 66)
+        self.assertEqual(answer("--follow", "--json", only), (4, b"", "dwg-info: 1 of 1 files in folders is left out; dwg-check says why\n"))
+        # A file that was named is told, and counts, whatever is found.
+        bad = self.top / "a" / "bad.dwg"
+        status, _, said = answer("--texts", "T", self.folder / "none", self.top, bad)
+        self.assertEqual((status, said.splitlines()[0], said.splitlines()[2] + "\n"), (4, f"dwg-info: {self.folder}/none: No such file or directory", self.left_out))
+        self.assertRegex(said.splitlines()[1], r"/bad.dwg: refused: objects \d+ at \d+: check")
+
+    def test_folders_that_cannot_be_read(self) -> None:
+        locked, entries_of = str(self.top / "a" / "locked"), walking.entries_of
+        os.mkdir(locked)
+
+        def entries(folder: str, walk: walking.Walk, top: str) -> Iterator[Tuple[str, bool]]:
+            if folder == locked:
+                raise PermissionError(13, "Permission denied")
+            return entries_of(folder, walk, top)
+
+        # (root reads each)
+        with unittest.mock.patch.object(walking, "entries_of", entries):
+            self.assertEqual(answer("--texts", "T", self.top)[2], self.left_out.replace("3 of 6", "4 of 7"))
+            self.assertEqual(answer("--texts", "T", locked), (4, b"file,handle,kind,layer,text\n", f"dwg-info: {locked}: Permission denied\n"))
+
+    def test_a_pipe_in_a_folder_holds_nothing_up(self) -> None:
+        os.mkfifo(self.top / "a" / "pipe.dwg")
+        status, out, said = answer("--layers", self.top)
+        self.assertEqual((status, out, said), (0, answer("--layers", *self.whole)[1], self.left_out.replace("3 of 6", "4 of 7")))
+
+    def test_a_fault_that_is_none_of_the_file_is_told(self) -> None:
+        size = len(drawn(6, 1))
+        failing = program_that(self.folder, "failing", [f'[ "$1" = drill ] || [ "$(stat -Lc %s /dev/stdin)" != {size} ] || kill -9 $$', 'exec "$REAL" "$@"'])
+        ran = tool("dwg-info", "--program", failing, "--layers", self.top)
+        said = f"dwg-info: {self.top}/a/z.DWG: the program dwg gave no answer: killed by signal 9\n" + self.left_out
+        self.assertEqual((ran.returncode, ran.stdout, ran.stderr.decode()), (69, answer("--layers", self.whole[0], self.whole[2])[1], said))
+
+    def test_damaged_drawings_are_searched_once_they_are_recovered(self) -> None:
+        recovered = self.folder / "recovered"
+        self.assertEqual(tool("dwg-recover", "--quiet", "--tree", recovered, self.top / "a" / "bad.dwg", self.top / "b.dwg").returncode, 1)
+        status, out, said = answer("--texts", "", self.top, recovered)
+        rows = [row for row in rows_of(out) if row[0] == str(recovered / "bad.dwg")]
+        self.assertEqual((status, bool(rows), said), (0, True, self.left_out.replace("3 of 6", "3 of 7")))
+        told = " ".join(tool("dwg-info", "--help").stdout.decode().split())
+        for said in ("not of MTEXT and dimensions", "Damaged drawings aren't searched: let dwg-recover write what is whole of them into a tree"):
+            self.assertIn(said, told)
+
+    def test_outputs_in_the_folder(self) -> None:
+        out, old = self.top / "out.dwg", (self.top / "b.dwg").read_bytes()
+        expected = answer("--layers", *self.whole)[1]
+        self.assertEqual((answer("--layers", self.top, "-o", out)[0], out.read_bytes()), (0, expected))
+        for words in (["-o", out, "--force"], ["-o", self.top / "b.dwg", "--force"], ["-o", out]):
+            self.assertEqual(answer("--layers", self.top, *words)[0], 73, words)
+        out.unlink()
+        self.assertEqual(test_safety.in_bash('dwg-info --layers "$1" > "$1/new.dwg"', self.top).returncode, 0)
+        self.assertEqual((self.top / "new.dwg").read_bytes(), expected)
+        self.assertEqual(test_safety.in_bash('dwg-info --layers "$1" >> "$1/b.dwg"', self.top).returncode, 73)
+        self.assertEqual((self.top / "b.dwg").read_bytes(), old)
+        # Where nothing can be told nothing is written.
+        self.assertEqual(answer("--layers", self.top, "--exclude", "old", "--exclude", "[bz]*.[dD]*", "-o", out)[0], 3)
+        self.assertFalse(out.exists())
+
+    def test_one_run_of_the_program_a_drawing(self) -> None:
+        counted = program_that(self.folder, "counted", [f'echo "$1" >> {self.folder}/runs', 'exec "$REAL" "$@"'])
+        ran = tool("dwg-info", "--program", counted, "--texts", "T", *self.whole, self.whole[0].parent)
+        self.assertEqual((ran.returncode, (self.folder / "runs").read_text().split()), (0, ["drill", *["show"] * 4]))
 
 
 class Memory(common.InFolder):

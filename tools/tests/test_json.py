@@ -4,12 +4,16 @@ from __future__ import annotations
 
 import json
 import math
+import re
 import unittest
 from typing import Any, Dict, List
 
 import common
 import spelled
-from made import made, needs_program, tool
+import test_limits
+from made import PROGRAM, made, needs_program, tool
+
+from dwgtools import lettering
 
 needs_program()
 
@@ -88,6 +92,57 @@ class Json(common.InFolder):
         head, *objects = lines_of(tool("dwg-json", given=cyrillic.file(29)))
         self.assertEqual((head["codepage"], head["encoding"]), (29, "cp1251"))
         self.assertEqual([said["text"] for said in objects if said["object"] == f"{handle:X}"], ["Стена"])
+
+    def test_codepage(self) -> None:
+        """Texts are read by a code page that is named, whatever the header says."""
+        one, other = spelled.Drawing(), spelled.Drawing()
+        handle, _ = one.text("Стена".encode("cp1251"), (0, 0), 1.0), other.text("Дверь".encode("cp1251"), (0, 0), 1.0)
+        path, old = self.file("a.dwg", one.file(0)), self.file("old.dwg", other.file(0))
+        for word in ("29", "cp1251", "CP1251"):
+            head, *objects = lines_of(tool("dwg-json", "--codepage", word, path))
+            self.assertEqual((head["codepage"], head["encoding"]), (0, "cp1251"))
+            self.assertEqual([said["text"] for said in objects if said["object"] == f"{handle:X}"], ["Стена"])
+        self.assertIn("Стена", tool("dwg-info", "--texts", "Ст", "--codepage", "29", path).stdout.decode())
+        self.assertIn("Стена", tool("dwg-picture", "--codepage", "29", path).stdout.decode())
+        self.assertIn('"Дверь" -> "Стена"', tool("dwg-diff", "--codepage", "29", old, path).stdout.decode())
+        for word in ("0", "43", "45", "1251", "latin", "ascii,", "", "٣"):
+            for name, status in (("dwg-json", 64), ("dwg-info", 64), ("dwg-diff", 2)):
+                ran = tool(name, *([old] if status == 2 else []), path, "--codepage", word)
+                self.assertEqual((ran.returncode, ran.stdout), (status, b""), (name, word))
+
+    def test_escapes(self) -> None:
+        """Letters that are escaped stand beside the text as it is, where they are letters."""
+        one = spelled.Drawing()
+        contents = {
+            b"a\\U+4E2Db": "a\u4e2db", b"\\u+4e2d\\U+D83D\\U+DE00": "\u4e2d\U0001f600", b"\\M+1955C\\M+2A4A4": "\u8868\u4e2d",
+            b"\\M+3B0A1 \\M+48861 \\M+5D6D0": "\uac00 \uac00 \u4e2d", b"\\U+DE00\\U+D83D\\U+0041": "\\U+DE00\\U+D83DA",
+            **{raw: None for raw in (b"\\U+D83D", b"\\U+12G4", b"\\U+123", b"\\M+6D6D0", b"\\M+0D6D0", b"\\M+10041", b"\\M+1FFFF", b"U+4E2D", b"\\")},
+        }  # fmt: skip
+        handles = [one.text(content, (0, 0), 1.0) for content in contents]
+        layer = one.layer(one.free(), b"\\U+5899", 1)
+        point = one.point((0, 0, 0), layer=layer)
+        one.of_class(500, b"\\U+0041")
+        path = self.file("escapes.dwg", one.file())
+        for words in ((), ("--pretty",)):
+            said, place, decoder = tool("dwg-json", *words, path).stdout.decode("ascii"), 0, json.JSONDecoder()
+            found: Dict[Any, Dict[str, Any]] = {}
+            while place < len(said.rstrip()):
+                read, place = decoder.raw_decode(said, place)
+                found[read.get("object", read.get("class"))], place = read, place + 1
+            for handle, (raw, expected) in zip(handles, contents.items()):
+                text = found[f"{handle:X}"]
+                self.assertEqual((text["text"], text.get("text_unescaped")), (raw.decode("ascii"), expected))
+                self.assertEqual(list(text).index("text_unescaped") - list(text).index("text") if expected else 1, 1)
+            named = {"name": "\\U+5899", "name_unescaped": "\u5899"}
+            self.assertEqual(found[f"{point:X}"]["layer"], {"code": 5, "handle": f"{layer:X}", **named})
+            self.assertEqual({name: found[f"{layer:X}"]["entry"].get(name) for name in named}, named)
+            self.assertEqual((found[500]["dxf"], found[500]["dxf_unescaped"]), ("\\U+0041", "A"))
+        # A picture has these letters, and dwg-info finds texts by them.
+        self.assertEqual(lettering.readable(b"\\M+1955C\\M+1FFFF%%d", "cp1252"), "\u8868\ufffd\u00b0")
+        pattern = "\u4e2d|D6D0"
+        rows = tool("dwg-info", "--texts", pattern, path).stdout.decode().splitlines()[1:]
+        said = [raw.decode("ascii") for raw, letters in contents.items() if re.search(pattern, raw.decode("ascii") + (letters or ""))]
+        self.assertEqual([row.rpartition(",")[2] for row in rows], [raw.replace("\\", "\\\\") for raw in said])
 
     def test_classes_and_plain(self) -> None:
         one = spelled.Drawing()
@@ -169,10 +224,20 @@ class Json(common.InFolder):
         for status, lines in cases.items():
             answer = tool("dwg-json", path, "-o", out, "--program", self.failing(*lines))
             self.assertEqual((answer.returncode, answer.stdout), (status, b""), answer.stderr)
-        # A program that shows well once, and fails the second time.
-        lines = [f"if [ -e {self.folder}/once ]; then \"$REAL\" show | head -n 100; exit 0; fi", f"touch {self.folder}/once", 'exec "$REAL" show']
-        self.assertEqual(tool("dwg-json", path, "-o", out, "--program", self.failing(*lines)).returncode, 70)
         self.assertFalse(out.exists())
+
+    def test_shown_once(self) -> None:
+        """The text is read again from where it is kept; where it is too long for that, or finds no place, the drawing is shown once more."""
+        path, once = self.file("a.dwg", made(20, 1)), self.folder / "once"
+        lines = [f"if [ -e {once} ]; then \"$REAL\" show | head -n 100; exit 0; fi", f"touch {once}", 'exec "$REAL" show']
+        program, expected = self.failing(*lines), tool("dwg-json", path).stdout
+        full = "def full(self, data): raise OSError(28, 'No space left on device')\nspools.tempfile.SpooledTemporaryFile.write = full"
+        for limit, status in (("", 0), ("spools.MOST_KEPT = 2000", 70), (full, 70)):
+            limit = f"from dwgtools import spools\n{limit}"
+            ran = test_limits.otherwise("dwg-json", limit, path, "--program", program)
+            self.assertEqual((ran.returncode, ran.stdout if status == 0 else expected), (status, expected), limit)
+            self.assertEqual(test_limits.otherwise("dwg-json", limit, path, "--program", PROGRAM).stdout, expected)
+            once.unlink()
 
 
 if __name__ == "__main__":

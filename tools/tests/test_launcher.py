@@ -519,6 +519,14 @@ class Unproved(InTree):
         for words in (("init", "-q"), ("commit", "-q", "--allow-empty", "-m", "x")):
             subprocess.run(["git", "-c", "user.name=t", "-c", "user.email=t@example.org", *words], cwd=other, check=True)
         self.assertEqual(self.run_it("--version", GIT_DIR=str(other / ".git"), GIT_WORK_TREE=str(other)).stdout.decode(), version)
+        # The index isn't written, which belongs to who works in the checkout.
+        index, source = self.tree / ".git" / "index", self.tree / "crates.txt"
+        os.utime(source, (1, 1))
+        before = index.stat().st_ino, index.stat().st_mtime_ns
+        self.assertEqual(self.run_it("--version").stdout.decode(), version)
+        self.assertEqual((index.stat().st_ino, index.stat().st_mtime_ns), before)
+        source.write_text(source.read_text() + "\n")
+        self.assertEqual(self.run_it("--version").stdout.decode(), version.replace(",", "-dirty,", 1))
         self.run_it(DWG_BUILD="1")
         self.assertRegex(self.run_it("--version").stdout.decode(), r"^dwg [0-9a-f]{7,}(-dirty)?, proved and built\n$")
 

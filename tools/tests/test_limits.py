@@ -16,13 +16,13 @@ import time
 import unittest
 import unittest.mock
 from pathlib import Path
-from typing import IO, Any, List, Sequence, Tuple, Union
+from typing import IO, Any, Iterator, List, Sequence, Tuple, Union
 
 import common
 import made
 from made import TOOLS, program_that
 
-from dwgtools import plane, processes, shapes, walking
+from dwgtools import checkers, plane, processes, shapes, walking
 from dwgtools.json_values import Speaker
 from dwgtools.show import Lists, Object, read_objects
 from dwgtools.statuses import ToolError
@@ -186,6 +186,89 @@ class Time(Checked):
             os.killpg(started.pid, signal.SIGCONT)
             out, said = started.communicate(timeout=60)
         self.assertEqual((started.returncode, said, [row[1:] for row in rows(out)]), (1, b"", [["no drawing", "unknown bytes"]]))
+
+
+# How each tool is run over one drawing, and the status that it has where the program gives no answer.
+EACH = {
+    "dwg-check": (["--quiet"], 69), "dwg-diff": (["{0}"], 2), "dwg-info": ([], 69), "dwg-json": ([], 69), "dwg-picture": ([], 69),
+    "dwg-recover": (["{1}"], 69),
+}  # fmt: skip
+
+
+class Liars(Checked):
+    """What a program that isn't dwg may do ends a tool at once, or when no answer can come any more."""
+
+    LITTLE = "program.MOST_HELD = program.MOST_PASSED = 100_000"
+
+    def setUp(self) -> None:
+        super().setUp()
+        self.path = self.file("d/a.dwg", made.made(3) if made.is_built() else b"AC1015")
+
+    def answers(self, lines: str, stand_in: object, tools: Sequence[str] = tuple(EACH)) -> Iterator[Tuple[str, int, int, str]]:
+        """What tools end with over the drawing, what they are to end with, and what they say."""
+        for name in tools:
+            words, status = EACH[name]
+            ran = otherwise(name, lines, "--program", stand_in, self.path, *(word.format(self.path, self.folder / "out") for word in words))
+            self.assertFalse((self.folder / "out").exists())
+            yield name, ran.returncode, status, ran.stderr.decode()
+
+    def endless(self, command: str, to: str = "") -> Path:
+        """A program that answers a command without an end."""
+        return program_that(self.folder, "endless", [f'[ "$1" != {command} ] || exec yes "$1" {to}', 'exec "$REAL" "$@"'])
+
+    def test_an_answer_without_an_end(self) -> None:
+        why = "writes more than any answer has"
+        for lines in ("", self.LITTLE):
+            for name, got, status, said in self.answers(lines, shutil.which("yes")):
+                self.assertEqual((got, said), (status, f"{name}: the program dwg gave no answer: `drill` {why}\n"))
+
+    def test_a_command_without_an_end(self) -> None:
+        made.needs_program()
+        why = "writes more than any answer has"
+        for command, tools in (("show", ("dwg-diff", "dwg-info", "dwg-json", "dwg-picture")), ("recover", ("dwg-recover",))):
+            for to in ("", ">&2"):
+                for name, got, status, said in self.answers(self.LITTLE, self.endless(command, to), tools):
+                    self.assertEqual(got, status, (command, name, to))
+                    self.assertIn(f"`{command}` {why}", said)
+        for words, command in (([], "audit"), (["--fixity", self.folder / "log"], "certify")):
+            for to in ("", ">&2"):
+                ran = otherwise("dwg-check", self.LITTLE, "--quiet", "--program", self.endless(command, to), *words, self.path)
+                self.assertEqual((ran.returncode, rows(ran.stdout)), (1, [[str(self.path), "failed", f"`{command}` {why}"]]))
+        # So it is in the processes that check many.
+        for index in range(checkers.MANY):
+            os.link(self.path, self.folder / "d" / f"{index}.dwg")
+        for to in ("", ">&2"):
+            ran = otherwise("dwg-check", self.LITTLE, "--quiet", "--program", self.endless("audit", to), self.folder / "d")
+            self.assertEqual((ran.returncode, [row[1:] for row in rows(ran.stdout)]), (1, [["failed", f"`audit` {why}"]] * (checkers.MANY + 1)))
+        ran = otherwise("dwg-info", self.LITTLE, "--program", self.endless("sections"), "--preview", "-", self.path)
+        self.assertEqual((ran.returncode, ran.stdout), (69, b""))
+
+    def test_no_answer_at_all(self) -> None:
+        hanging = program_that(self.folder, "hanging", ["exec sleep 60"])
+        for name, got, status, said in self.answers("program.MOST_AT_ONCE = 0.5", hanging):
+            self.assertEqual((got, said), (status, f"{name}: the program dwg gave no answer: `drill` has no answer in 0.5 seconds\n"))
+
+    def test_what_a_wrapper_leaves_behind_isnt_waited_for(self) -> None:
+        """It has the pipes of the answer open still."""
+        made.needs_program()
+        left = self.folder / "left"
+        self.addCleanup(lambda: [os.kill(int(number), signal.SIGKILL) for number in left.read_text().split()])
+        wrapper = program_that(self.folder, "wrapper", [f'sleep 600 & echo $! >>"{left}"', 'exec "$REAL" "$@"'])
+        begun = time.monotonic()
+        for index in range(checkers.MANY):
+            os.link(self.path, self.folder / "d" / f"{index}.dwg")
+        runs = (("dwg-check", ["--quiet", self.folder / "d"], 0), ("dwg-json", [self.path], 0), ("dwg-recover", [self.path, "-"], 0), ("dwg-info", ["--preview", "-", self.path], 66))
+        for name, words, status in runs:
+            ran = otherwise(name, "from dwgtools import pipes\npipes.QUIET = 1", "--program", wrapper, *words)
+            self.assertEqual(ran.returncode, status, (name, ran.stderr))
+        self.assertLess(time.monotonic() - begun, 90)
+
+    def test_what_comes_late_is_awaited(self) -> None:
+        """What a wrapper passes on by another process may come after its own end."""
+        made.needs_program()
+        late = program_that(self.folder, "late", ['[ "$1" != audit ] || { exec 3<&0; "$REAL" audit <&3 | { sleep 0.7; cat; } & exit 0; }', 'exec "$REAL" "$@"'])
+        ran = otherwise("dwg-check", "", "--quiet", "--program", late, self.path)
+        self.assertEqual((ran.returncode, [row[1] for row in rows(ran.stdout)]), (0, ["sound"]))
 
 
 class NoLog(Checked):
@@ -359,6 +442,22 @@ class Signals(Checked):
         started.terminate()
         started.communicate(timeout=30)
         self.assertEqual((started.returncode, ended(number)), (143, True))
+
+    @unittest.skipUnless(os.path.exists("/proc/self/stat"), "whose session a process is in, as there is no /proc")
+    def test_what_a_process_of_the_tool_ran_is_ended_with_it(self) -> None:
+        begun = self.folder / "begun"
+        self.drawings(checkers.MANY)
+        hanging = self.refusing(f'[ "$1" != audit ] || {{ echo $$ >>"{begun}"; exec sleep 60; }}')
+        started = subprocess.Popen([str(TOOLS / "dwg-check"), "--jobs", "1", "--program", str(hanging), str(self.folder / "d")], stdin=subprocess.DEVNULL, stdout=subprocess.PIPE, stderr=subprocess.PIPE)
+        self.addCleanup(started.communicate)
+        self.addCleanup(started.terminate)
+        while not begun.exists() or not begun.read_text().endswith("\n"):
+            time.sleep(0.01)
+        number = int(begun.read_text().split()[0])
+        session = next(one.session for one in processes.all_processes() if one.number == number)
+        self.assertNotIn(session, (number, os.getsid(0)))
+        os.kill(session, signal.SIGKILL)
+        self.assertTrue(ended(number))
 
     def test_a_second_signal_is_no_fault_of_python(self) -> None:
         # Of one that is ignored while it waits, Python tells by a traceback. One that was ignored from the begin stays so.

@@ -31,11 +31,14 @@ from dwgtools import lettering, plane, shapes
 from dwgtools.drawings import Drawing
 from dwgtools.encodings import CODE_PAGES
 from dwgtools.painter import Page, Painter
+from dwgtools.patterns import Patterns
 from dwgtools.picture import paint
+from dwgtools.pieces import objects_in
 from dwgtools.program import Program
-from dwgtools.show import Lists, read_objects
-from dwgtools.values import read_value
-from dwgtools.window import head, window_of
+from dwgtools.show import Lists, read_objects, read_prefix
+from dwgtools.statuses import ToolError
+from dwgtools.values import BadText, read_value
+from dwgtools.window import corners_of, head, window_of
 
 needs_program()
 
@@ -139,6 +142,16 @@ class Picture:
         sheet = self.root.findtext(SVG + "style", "")
         self.classes = {name: said for name, said in re.findall(r"\.(\w+){stroke-width:([^}]*)}", sheet)}
         self.seen = list(self.walk(self.root, (1, 0, 0, -1, 0, 0), {}))
+
+    def in_drawing(self, points: Sequence[Point]) -> List[Point]:
+        """Where points of the picture, with y upward, are in the drawing, as the picture says it."""
+        x, y = map(float, self.root.get("data-origin", "").split())
+        return [(x + u, y + v) for u, v in points]
+
+    def of_pixel(self, across: float, down: float) -> Point:
+        """Where a place is in the drawing that is so many pixels from the middle of the picture."""
+        (x, y, wide, tall), scale = self.box, float(self.root.get("data-scale", ""))
+        return self.in_drawing([(x + wide / 2 + scale * across, -(y + tall / 2 + scale * down))])[0]
 
     def walk(self, element: ElementTree.Element, outer: Matrix, style: Dict[str, str]) -> Iterator[Seen]:
         """All that is seen of an element."""
@@ -1094,7 +1107,7 @@ class Pictures(common.InFolder):
 
     def painted(self, one: spelled.Drawing) -> Tuple[Any, Picture]:
         """What reads a drawing, and its picture, in this process."""
-        out, given = io.BytesIO(), types.SimpleNamespace(space="model", block=None, width=1200, background="white")
+        out, given = io.BytesIO(), types.SimpleNamespace(space="model", block=None, width=1200, background="white", layers=None, window=None)
         found = Drawing(Program(PROGRAM), str(self.file("painted.dwg", one.file())))
         with found.file, contextlib.redirect_stderr(io.StringIO()):
             reader, _ = paint(found, out, given)
@@ -1447,6 +1460,111 @@ class Pictures(common.InFolder):
         answer = tool("dwg-picture", "--block", "none", given=one.file())
         self.assertEqual((answer.returncode, answer.stdout), (64, b""))
 
+    def test_origin_and_scale(self) -> None:
+        one, east, north = spelled.Drawing(), 4500000.0, -5300000.0
+        one.block(0x30, b"B", (1.0, 0.0, 0.0))
+        one.line((1, 0, 0), (4, 0, 0), owner=0x30)
+        for mode in (2, 1):
+            one.circle((east + 3, north + 4, 0), 2, mode=mode)
+            one.insert(0x30, (east + 0.125, north + 7, 0), (2, 2, 2), math.pi / 2, mode=mode)
+        window = f"{east + 20},{north - 4},{east - 4},{north + 20}"
+        pictures = [self.picture(one, *words) for words in ((), ("--space", "paper", "--width", "100"), ("--window", window), ("--window", window, "--width", "7"))]
+        for picture in pictures:
+            circle, line = picture.seen
+            self.near(picture.in_drawing(circle.points[:3:2]), [(east + 5, north + 4), (east + 3, north + 6)], 1e-6)
+            self.near(picture.in_drawing(line.points), [(east + 0.125, north + 7), (east + 0.125, north + 13)], 1e-6)
+        # The window is 24 units wide and high, and a pixel at the left above the middle is less far to the east, and more to the north.
+        self.near([pictures[2].of_pixel(-600, -300), pictures[3].of_pixel(3.5, 3.5)], [(east - 4, north + 14), (east + 20, north - 4)])
+        self.assertEqual([picture.root.get("data-scale") for picture in pictures[2:]], ["0.02", repr(24 / 7)])
+
+    def test_layers(self) -> None:
+        one = spelled.Drawing()
+        for handle, name, values in ((0x30, b"Walls-Old", 0), (0x31, b"DOORS", 0), (0x32, b"DOORS-OFF", 2), (0x33, b"M\xf6bel", 0)):
+            one.layer(handle, name, 3, values)
+        one.block(0x40, b"INNER")
+        one.line((0, 0, 0), (1, 0, 0), owner=0x40)
+        one.line((0, 0, 0), (2, 0, 0), owner=0x40, layer=0x31)
+        one.block(0x41, b"OUTER")
+        one.insert(0x40, (0, 0, 0), owner=0x41)
+        one.line((0, 0, 0), (3, 0, 0), owner=0x41, layer=0x30)
+        for layer, x in ((one.LAYER0, 4), (0x30, 5), (0x31, 6), (0x32, 7), (0x33, 8), (0x99, 9)):
+            one.line((0, 0, 0), (x, 0, 0), layer=layer)
+        # (of two inserts what is on layer 0 of the inner block is on their layers)
+        one.insert(0x41, (0, 10, 0), layer=0x30)
+        insert = one.insert(0x41, (0, 20, 0), layer=0x33, handle=0x150, ends=(0x151, 0x151, 0x152))
+        one.attribute(b"A", b"T", (0, 20), 1.0, insert, handle=0x151, layer=0x31)
+        one.last = 0x160
+        one.entity(39, "1" * 30, layer=0x31)
+        one.entity(39, "1" * 30, layer=0x30)
+        body, every = "not drawn: 1 BODY", [4, 5, 6, 8, 9, 11, 12, 13, 21, 22, 23, 20]
+        for words, ends, told in [
+            ("doors*", [6, 12, 22, 20], [body]),
+            ("WALLS-OLD", [5, 11, 13, 23], [body]),
+            ("m\xf6?el", [8, 21], []),
+            ("[dw]*s*,0", [4, 5, 6, 11, 12, 13, 22, 23, 20], ["not drawn: 2 BODY"]),
+            ("*", every, ["not drawn: 2 BODY"]),
+            ("DOOR,0,NO[NE]", [4], ["no layer has a name like DOOR", "no layer has a name like NO[NE]"]),
+            ("x", [], ["nothing is drawn", "no layer has a name like x"]),
+        ]:
+            with self.subTest(words):
+                answer = tool("dwg-picture", "--layers", words, given=one.file())
+                self.assertEqual((answer.returncode, answer.stderr.decode().splitlines()), (0, [f"dwg-picture: standard input: {one}" for one in told]))
+                picture = Picture(answer.stdout)
+                corners = [picture.in_drawing(found.points)[-1] for found in picture.seen]
+                self.assertEqual(sorted(round(x + y) for x, y in corners), sorted(ends))
+        self.assertEqual(len(Picture(tool("dwg-picture", given=one.file()).stdout).seen), len(every))
+
+    def test_window(self) -> None:
+        one = spelled.Drawing()
+        one.block(0x30, b"B")
+        one.circle((0, 0, 0), 1, owner=0x30)
+        one.xline((1000, 0, 0), (-1, 1, 0))
+        one.xline((1000, 0, 0), (0, 1, 0))
+        one.ray((0, 990, 0), (1, 0, 0))
+        one.ray((1000, 990, 0), (1, 0, 0))
+        for x in range(0, 2000, 100):
+            one.line((x, 990, 0), (x + 10, 990, 0))
+            one.point((x, 1000, 0))
+            one.circle((x, 1000, 0), 5)
+            one.arc((x, 1000, 0), 5, 0, 1)
+            one.text(b"T", (x, 1000), 5)
+            one.polyline([(x, 1000), (x + 10, 1000)], width=4)
+            one.ellipse((x, 1000, 0), (5, 0, 0), 0.5, 0, 1)
+        one.minsert(0x30, (0, 1000, 0), (20, 2), (100.0, 100.0))
+        everything = len(self.picture(one).seen)
+        # (the two lines without ends that cross it, and the copies and entities at 500)
+        picture = self.picture(one, "--window", "480,970,520,1030")
+        for found, value in zip(picture.box, (-20, -30, 40, 60)):
+            self.assertAlmostEqual(found, value)
+        self.assertEqual((picture.root.get("data-origin"), picture.root.get("height")), ("500.0 1000.0", "1800"))
+        ray, line, *others = picture.seen
+        self.near(picture.in_drawing(ray.points + line.points), [(480, 990), (520, 990), (500, 990), (510, 990)])
+        self.assertEqual([found.name for found in others], ["path", "circle", "path", "text", "path", "path", "path", "circle"])
+        self.assertEqual(everything, 4 + 20 * 8 + 40)
+        # What lies outside, but no farther than a line is wide, isn't left out: eight pixels here, of a unit each.
+        edge = spelled.Drawing()
+        edge.line((0, 0, 0), (10, 0, 0))
+        for window, count in (("11,0,111,50", 1), ("-50,5,50,55", 1), ("-50,-105,50,-5", 1), ("17,0,117,50", 1)):
+            self.assertEqual(len(self.picture(edge, f"--window={window}", "--width", "100").seen), count)
+        for window in ("19,0,119,50", "-50,9,50,59", "-109,0,-9,50"):
+            answer = tool("dwg-picture", f"--window={window}", "--width", "100", given=edge.file())
+            self.assertEqual((answer.returncode, answer.stderr), (0, b"dwg-picture: standard input: nothing is drawn\n"))
+        # Corners in any order, by any numbers; and those of a block.
+        self.assertEqual(self.picture(one, "--window", "520,1030,4.8e+2,97.0e1").svg, picture.svg)
+        self.assertEqual(len(self.picture(one, "--block", "B", "--window=-1,-1,0.,.5").seen), 1)
+        answer = tool("dwg-picture", "--window", "3,3,4,4", given=one.file())
+        self.assertEqual((answer.returncode, answer.stderr), (0, b"dwg-picture: standard input: nothing is drawn\n"))
+        path = self.file("a.dwg", one.file())
+        odd = " 1,2,3 1,2,3,4,5 1,2,3,x nan,0,1,1 0,0,inf,1 0,0,1e16,1e16 0,0,0,1 0,0,1,1001 1,1,1,1 1\t,0,2,2 0,0,1_0,1 0,0,1e-31,1e-31"
+        for word in odd.split(" "):
+            answer = tool("dwg-picture", path, f"--window={word}", "-o", self.folder / "out.svg")
+            self.assertEqual((answer.returncode, answer.stdout), (64, b""), word)
+            self.assertRegex(answer.stderr, rb"dwg-picture: argument --window: [^\n]+\n\Z")
+        for word in ("", "A,,B", ",A", "A,"):
+            answer = tool("dwg-picture", path, "--layers", word)
+            self.assertEqual((answer.returncode, answer.stderr.splitlines()[-1]), (64, b"dwg-picture: argument --layers: a pattern is empty"))
+        self.assertFalse((self.folder / "out.svg").exists())
+
     def test_extents(self) -> None:
         one = spelled.Drawing()
         one.block(0x30, b"B")
@@ -1470,7 +1588,7 @@ class Pictures(common.InFolder):
             for begin in ((0.0, 0.0), (-x, -y), (x, 0.0)):
                 shown = window_of([begin, (max(x, begin[0]), max(y, begin[1]))])
                 for width in (1, 1200, 100_000):
-                    said = head(shown, width, "#ffffff", {5, 211}) + "</g></svg>"
+                    said = head(shown, width, "#ffffff", {5, 211}, begin) + "</g></svg>"
                     root = ElementTree.fromstring(said)
                     box = list(map(float, root.get("viewBox", "").split()))
                     widths = list(map(float, re.findall(r"stroke-width:([^}]*)}", root.findtext(SVG + "style", ""))))
@@ -1609,6 +1727,95 @@ class Pictures(common.InFolder):
         self.assertEqual([one.name for one in self.folder.iterdir()], ["a.dwg"])
         answer = tool("dwg-picture", path, "-o", out, "--program", self.failing('"$REAL" show | head -n 100', "exit 6"))
         self.assertEqual((answer.returncode, out.exists()), (6, False))
+
+
+class ShownText:
+    """A drawing by the text that is shown of it."""
+
+    def __init__(self, text: bytes) -> None:
+        self.shown, self.file = text, open(os.devnull, "rb")
+
+    @contextlib.contextmanager
+    def show(self, *words: Any) -> Iterator[Any]:
+        """As that of a drawing."""
+        file = io.BytesIO(self.shown)
+        prefix = read_prefix(file)
+        yield prefix, objects_in(file, prefix.count, *words)
+
+
+# Words that stand for others: zeros, numbers that are none or too large, very small ones, and those of directions.
+WORDS = b"""0000000000000000 8000000000000000 7FF0000000000000 7FF8000000000001 430C6BF526340000 430C6BF526340001 0000000000000001 3FF0000000000000
+BFF0000000000000 C050000000000000 2000000000000000 401921FB54442D18 3EE4F8B588E368F1""".split()
+ONE, NONE = "3FF0000000000000", "0000000000000000"
+# Lines that stand for others.
+LINES = f"""mode 0|mode 1|mode 2|mode 3|invisible 1|invisible 2|colour 0|colour 7|colour 256|colour 300|lineweight 5|lineweight 30
+layer 5.17|layer 5.99|layer 5.0|flag 512|flag 1|text ""|text " "|text "A&B"|text "%%d"|text "a b"|text "\\5cU+00e4"|text "\\fc"|style 5.0
+elevation {ONE}|normal {NONE} {NONE} BFF0000000000000|extrusion {ONE} {NONE} {ONE}|extrusion {NONE} {NONE} BFF0000000000000|width {ONE}
+bulges[0] {ONE}|horizontal 1|rotation {ONE}|points[7] {ONE} {ONE}|thickness {ONE}|owner 4.18|values 1|values 2|x 1""".replace("\n", "|").encode().split(b"|")
+# Lines that no text of `show` has.
+ODD = f"""mode x|mode 02|owner 4.x|xdict 3|layer 5.10 |colour -|invisible 0000000000000000|linetype_scale 1|thickness zz|thickness {ONE[1:]}|style 5.G|text a|flag x
+start {ONE} {ONE} zz|end {ONE} {ONE} {ONE} {ONE}|place {ONE} {ONE}|place {ONE}|centre {ONE}  {ONE[1:]}|centre {ONE.lower()} {ONE}|radius {ONE} {ONE}|radius 1
+insertion {ONE} {ONE} x|extrusion {NONE} {NONE} {ONE} {ONE}|points {ONE} {ONE}|points[00] {ONE} {ONE}|points[01] {ONE} {ONE}|points[0] {ONE}|points[1] {ONE} {ONE} {ONE}
+points[2] {ONE.lower()} {ONE}|points[3] 5.1|reactors[0] 4.1F|reactors[3] 4.1F|reactors[0] x|x[0] {ONE}|x[1] {ONE}|app[0].bytes 0|  points[0] {ONE} {ONE}""".replace("\n", "|").encode().split(b"|")
+
+
+class Quickly(unittest.TestCase):
+    """What is drawn at once by its text looks as what is read field by field."""
+
+    def drawn(self, text: bytes, **words: Any) -> Any:
+        """The picture and what is said of it, or why there is none."""
+        usual = {"space": "model", "block": None, "width": 1200, "background": "white", "layers": None, "window": None}
+        out, given = io.BytesIO(), types.SimpleNamespace(**{**usual, **words})
+        drawing: Any = ShownText(text)
+        with drawing.file:
+            try:
+                reader, painter = paint(drawing, out, given)
+            except (BadText, ToolError, ValueError) as fault:
+                return type(fault), str(fault)
+            return out.getvalue(), sorted(reader.undrawn.items()), painter.extent.sides, painter.is_stretched
+
+    def compare(self, text: bytes, **words: Any) -> bool:
+        """Draws both ways, and tells whether there is a picture."""
+        quickly = self.drawn(text, **words)
+        with unittest.mock.patch("dwgtools.picture.is_placed", lambda *_: False), unittest.mock.patch("dwgtools.quick.Quick.is_drawn", lambda *_: False):
+            slowly = self.drawn(text, **words)
+        self.assertEqual(quickly, slowly, text)
+        return len(quickly) > 2
+
+    def changed(self, text: bytes, chance: random.Random, told_lines: Sequence[bytes]) -> bytes:
+        """A text of which some lines are others."""
+        lines = text.split(b"\n")
+        for _ in range(chance.choice((1, 3, 10))):
+            at = chance.randrange(len(lines) // 3, len(lines) - 1)
+            words = lines[at].split(b" ")
+            if lines[at].startswith(b"object "):
+                continue
+            if len(words[-1]) == 16 and chance.random() < 0.6:
+                words[chance.choice((-1, -1, -min(2, len(words) - 3)))] = chance.choice(WORDS)
+                lines[at] = b" ".join(words)
+            elif chance.random() < 0.8:
+                told = chance.choice(told_lines)
+                same = [place for place, line in enumerate(lines) if line.startswith(b"  " + told.split(b" ")[0] + b" ")]
+                lines[chance.choice(same) if same and chance.random() < 0.9 else at] = b"  " + told
+            else:
+                lines[at : at + 1] = chance.choice(([], [lines[at], lines[at]]))
+        return b"\n".join(lines)
+
+    def test_made_drawings(self) -> None:
+        for seed in (1, 2):
+            text = dwg("show", given=made(60, seed)).stdout
+            for words in (
+                {}, {"space": "paper"}, {"background": "black"}, {"block": "TAG"}, {"block": "*MODEL_SPACE"}, {"layers": Patterns("w*")},
+                {"window": corners_of("65,66,68,70")}, {"window": corners_of("70,71,70.01,70.02")}, {"window": corners_of("1,1,2,2")},
+            ):  # fmt: skip
+                self.assertTrue(self.compare(text, **words))
+
+    def test_changed_drawings(self) -> None:
+        chance, text = random.Random(8), dwg("show", given=made(24, 3)).stdout
+        self.assertGreater(sum(self.compare(self.changed(text, chance, LINES)) for _ in range(250)), 150)
+        self.assertGreater(sum(self.compare(self.changed(text, chance, ODD)) for _ in range(250)), 50)
+        window = {"window": corners_of("66,67,71,80"), "layers": Patterns("0")}
+        self.assertGreater(sum(self.compare(self.changed(text, chance, LINES), **window) for _ in range(50)), 25)
 
 
 if __name__ == "__main__":

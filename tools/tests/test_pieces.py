@@ -22,6 +22,9 @@ from dwgtools.values import BadText, Text
 
 assert PROGRAM
 
+# What texts begin with: some have what JSON escapes, or what isn't decoded, and in some letters are escaped.
+ENDS = ("T%", '":', "\\5cU+4E2D", "\\81\\5c")
+
 # Objects of which many lines are the same, and some are in no drawing.
 OBJECTS = (
     """object 10 LAYER typed 51
@@ -43,6 +46,12 @@ object 24 UNKNOWN raw 300
   bytes 1234567890123456
   a[0].bytes 00ff
   graphic -
+object 30 TEXT typed 1
+  owner 4.13
+  items[0].name "\\5cU+4E2D"
+  items[0].target 2.0
+  lines[0] "\\5cU+4E2D"
+  text.text "\\5cM+1955C %"
 object 31 TEXT typed 1
   owner 4.1
   links.next 5.11
@@ -51,8 +60,19 @@ object 31 TEXT typed 1
   owner 4.2
   layer 5.12
 """
-    + test_limits.polyline_text(4, equal=False, bulges=[1.0, 0.1]).replace("object 31", "object 32")
-    + "".join(test_limits.polyline_text(2).replace("object 31", f"object {handle:X}") for handle in range(0x33, 0x43))
+    + "".join(
+        f"""object 25{index:X} TEXT typed 1
+  colour {256 * (index % 2)}
+  linetype_scale {"3FF0000000000000" if index % 7 else "7FF0000000000000"}
+  layer 5.{16 + index % 3:X}
+  insertion 40505E8885DB000{index % 8} {"0000000000000000" if index % 3 else "8000000000000000"}
+  bytes 1234567890123456
+  text "{ENDS[index % 4]}{index % 10}"
+"""
+        for index in range(16)
+    )
+    + test_limits.polyline_text(4, equal=False, bulges=[1.0, 0.1]).replace("object 31", "object 270")
+    + "".join(test_limits.polyline_text(2).replace("object 31", f"object {handle:X}") for handle in range(0x333, 0x343))
 )
 
 # Lines that a text may have in some place, most of which no text has.
@@ -60,7 +80,7 @@ ODD = """|x|  |   a 1|  a|  a |  a  1|	a 1|  colour 0|  colour 256|  colour 00| 
   A 1|  a%s 1|  a \udcff|  a "\udcff"|  a "|  a ""|  a 5.g|  a .5|  a 5.0001F|  a 12.1|  bytes 0g|  bytes 0|  a 4050E9DAB1D1000|  a 4050e9dab1d10000|  a 0x50E9DAB1D10000
   a 7FF8000000000001 0000000000000000|  a 00012|  a 12345678901|  a 1\r|  entry.name "N"|  entry.name 5|object 7 LAYER typed 51|object  8 LAYER typed 51|object 50 LAYER typed 51
 object 50 layer typed 51|object 050 LAYER typed 51|object ab LAYER typed 51|object 50 LAYER strange 51|object 50 LAYER typed 5x|object zz LAYER typed 5|object 50 typed 5
-object 8000000000000000 LAYER typed 51|  invisible 1|  interest 0000000000000000|  texts 00FF""".replace("\n", "|").split("|")
+object 8000000000000000 LAYER typed 51|  invisible 1|  interest 0000000000000000|  texts 00FF|  text_unescaped 1""".replace("\n", "|").split("|")
 
 
 def changed(text: bytes, chance: random.Random) -> bytes:
@@ -71,6 +91,10 @@ def changed(text: bytes, chance: random.Random) -> bytes:
         odd = chance.choice([*ODD, lines[at].decode("utf-8", "surrogateescape") + chance.choice((" ", "1", "\r"))]).encode("utf-8", "surrogateescape")
         lines[at : at + chance.choice((0, 1, 1))] = chance.choice(([odd], [odd], [], [lines[at], lines[at]], lines[at : at + 1]))
     data = b"\n".join(lines)
+    if chance.random() < 0.4:
+        # (what stands elsewhere stays where it is)
+        at = chance.randrange(data.index(b"\nobject ") + 1, len(data))
+        data = data[:at] + chance.choice((b"0", b"a", b"g", b"F", b" ", b".", b'"', b"\n", b"\\", b"\xff")) + data[at + 1 :]
     return data[: chance.randrange(len(data))] if chance.random() < 0.1 else data
 
 
@@ -150,7 +174,7 @@ class Pieces(unittest.TestCase):
             return lines
 
         self.said: List[bytes] = []
-        speaker = Speaker({0x10: Text(b"W\xfcnde"), 0x11: Text(b"\x81"), 0x12: Text(b"W\x81" * 200)}, "cp1252")
+        speaker = Speaker({0x10: Text(b"W\xfcnde"), 0x11: Text(b"\x81"), 0x12: Text(b"W\x81" * 200), 0x13: Text(b"\\U+4E2D")}, "cp1252")
         self.assertGreater(self.compare(by(False), by(True), speaker), 40)
         self.assertEqual(self.said[::2], self.said[1::2])
         # Several processes do the same.

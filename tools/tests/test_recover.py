@@ -19,7 +19,7 @@ import unittest.mock
 from typing import Any, Dict, Iterable, Iterator, List, Optional, Tuple
 
 import made
-from made import TOOLS, dwg, flipped, layout, program_that, shown, tool
+from made import TOOLS, TOP, dwg, flipped, layout, program_that, shown, tool
 
 from dwgtools import chains
 from dwgtools.drawings import Drawing
@@ -30,6 +30,7 @@ from dwgtools.report import counted
 from dwgtools.show import Prefix, read_objects, read_prefix
 from dwgtools.statuses import ToolError
 from dwgtools.survey import Block, Survey, survey_before, survey_of, surveyed
+from dwgtools.tree_lines import COLUMNS
 
 made.needs_program()
 
@@ -453,8 +454,23 @@ class Recover(unittest.TestCase):
     def test_help(self) -> None:
         told = tool("dwg-recover", "--help").stdout.decode()
         self.assertTrue(told.splitlines()[-1].startswith("This tool is tested"))
-        for status in (0, 1, 4, 5, 6, 7, 8, 64, 65, 69, 70, 73, 130):
+        for status in (0, 1, 3, 4, 5, 6, 7, 8, 64, 65, 66, 67, 69, 70, 73, 130, 141):
             self.assertRegex(told, rf"(?m)^  {status} +\w")
+
+    def test_the_manual_page_has_the_members(self) -> None:
+        page = (TOP / "docs" / "dwg-tools.7").read_text()
+        item = page[page.index(".Ss dwg-recover") :].split(".It Fl -json")[1].split(".El")[0]
+        alone, tree = (re.findall(r"\.Ql (\w+)", part) for part in item.split("Of a tree"))
+        self.assertEqual(alone, list(self.report(DATA)))
+        ran = tool("dwg-recover", "--json", "--tree", self.folder / "tree", self.source)
+        self.assertEqual([*COLUMNS, *tree], list(json.loads(ran.stdout)))
+
+    def test_an_older_state_that_is_damaged(self) -> None:
+        cut = self.folder / "cut.dwg"
+        cut.write_bytes(DATA[:200])
+        self.source.write_bytes(DATA)
+        ran = tool("dwg-recover", "--before", cut, self.source, self.out)
+        self.assertEqual((ran.returncode, ran.stdout, self.out.exists()), (3, b"", False))
 
 
 class Chains(unittest.TestCase):
@@ -612,6 +628,8 @@ def placed(written: Any, failing: Iterable[int], has_links: bool) -> bool:
             file.finish()
         for name in ("rename", "replace", "unlink"):
             patched.enter_context(unittest.mock.patch.object(os, name, counted(getattr(os, name))))
+        # (what can't be removed is told)
+        patched.enter_context(unittest.mock.patch("dwgtools.outputs.tell"))
         if not has_links:
             patched.enter_context(unittest.mock.patch.object(os, "link", side_effect=OSError(1, "Operation not permitted")))
         try:

@@ -4,6 +4,7 @@ from __future__ import annotations
 
 import collections
 import contextlib
+import fcntl
 import hashlib
 import itertools
 import json
@@ -112,6 +113,32 @@ def expected_tree(name: str, files: Dict[bytes, Tuple[bytes, str]], copies: bool
     return expected
 
 
+# Nothing takes a name that ends so.
+NO_RENAME = """
+import os
+replace = os.replace
+def failing(old, new, **more):
+    if new.endswith({names}):
+        raise PermissionError(1, "Operation not permitted")
+    replace(old, new, **more)
+os.replace = failing
+"""
+
+
+# A folder is swapped for a link that leads elsewhere, before something is done.
+SWAPPING = """
+import os
+from dwgtools import growing
+done = {moment}
+def swapped(*words):
+    if not os.path.islink({folder!r}):
+        os.rename({folder!r}, {folder!r} + " before")
+        os.symlink({elsewhere!r}, {folder!r})
+    return done(*words)
+{moment} = swapped
+"""
+
+
 def state_below(folder: Path) -> Dict[str, Tuple[int, int, bytes]]:
     """What a folder has, with the times of changes."""
     paths = [path for path in folder.rglob("*") if path.is_file() and not path.is_symlink()]
@@ -198,13 +225,17 @@ class Outcomes(Tree):
         """What is lost is told in numbers, which are those of the notes."""
         answer = dwg("recover", given=data)
         notes = answer.stderr.decode().splitlines()
-        counts = [re.fullmatch(r"kept (\d+)", notes[-1])[1], sum(line.startswith("lost: object ") for line in notes), sum(line.startswith("found: ") for line in notes)]  # type: ignore[index]
+        lost = sum(line.startswith("lost: object ") for line in notes)
+        # Where the map isn't whole nobody knows how many objects there were.
+        is_known = not any(line.startswith(("lost: file header", "lost: map ")) for line in notes)
+        counts = [re.fullmatch(r"kept (\d+)", notes[-1])[1], lost if is_known else "?", sum(line.startswith("found: ") for line in notes)]  # type: ignore[index]
         self.assertEqual([row["kept"], row["lost"], row["found"]], list(map(str, counts)))
         findings = dwg("audit", given=answer.stdout).stdout.decode().splitlines()
         self.assertEqual(int(row["findings"]), len(findings) - 1)
         parts = re.findall(r"(?m)^lost: (?!object)([a-z ]+?)(?: \d+)?(?: at \d+)?$", answer.stderr.decode())
         told = row["detail"].partition("; lost: ")[2]
-        self.assertEqual([re.sub(r"^\d+ (.*)s$", r"\1", one) for one in told.split(", ") if one], list(dict.fromkeys(parts)), row)
+        objects = [f"at least {lost} object" if lost == 1 else f"at least {lost} objects"] if lost and not is_known else []
+        self.assertEqual([re.sub(r"^\d+ (.*)s$", r"\1", one) for one in told.split(", ") if one], [*dict.fromkeys(parts), *objects], row)
         self.assertTrue(row["detail"].startswith(notes[0][len("dwg: refused: ") :]), row)
 
     def test_a_tree(self) -> None:
@@ -238,18 +269,23 @@ class Outcomes(Tree):
         self.grown(65, "--quiet", self.plans, said="")
 
     def test_statuses(self) -> None:
-        """The status of a run is the greatest of its files, each of which has the one that it has alone."""
+        """The status of a run is the greatest of its files, each of which has the one that it has alone. What is no drawing that is read counts as
+        one that is damaged, and hides nothing."""
         data = drawn(7, 7)
-        for name, given, status in (("a", data, 0), ("b", older(data), 1), ("c", b"no drawing", 65), ("d", None, 4), ("e", bytes(8) + b"\x80" * 33_554_433, 7)):
+        lost = FILES[b"nothing.dwg"][0]
+        several = ("a", data, 0), ("b", older(data), 1), ("c", b"no drawing", 65), ("d", None, 4), ("e", bytes(8) + b"\x80" * 33_554_433, 7), ("f", b"AC1032" + bytes(99), 65), ("g", lost, 65)
+        for name, given, status in several:
             path = self.plans / f"{name}.dwg"
             if given is not None:
                 path.write_bytes(given)
             alone = tool("dwg-recover", path, self.folder / f"{name}.out").returncode
-            (row,) = self.grown(status, path)
+            (row,) = self.grown(1 if name in "cf" else status, path)
             self.assertEqual((alone, row["status"]), (status, str(status)), row)
         self.assertEqual(self.grown(0, self.plans / "a.dwg")[0]["outcome"], "sound")
         table = self.grown(1, self.plans / "b.dwg", self.plans / "a.dwg")
         self.assertEqual([row["outcome"] for row in table], ["recovered", "sound"])
+        others = self.plans / "c.dwg", self.plans / "f.dwg", self.plans / "a.dwg"
+        self.assertEqual([len(self.grown(status, *others, *more)) for status, more in ((1, []), (4, [self.plans / "d.dwg"]), (65, [self.plans / "g.dwg"]))], [3, 4, 4])
 
     def test_json(self) -> None:
         write_all(self.plans, FILES)
@@ -260,10 +296,25 @@ class Outcomes(Tree):
         for one, row in zip(told, table):
             path = one["path"].encode("utf-8", "surrogateescape")
             self.assertEqual(path, unescaped(row["path"]))
-            self.assertEqual(["" if one[name] is None else str(one[name]) for name in COLUMNS[3:8]], [row[name] for name in COLUMNS[3:8]])
+            self.assertEqual(["" if one[name] is None else str(one[name]) for name in COLUMNS[3:8]], ["" if row[name] == "?" else row[name] for name in COLUMNS[3:8]])
             data, outcome = FILES[os.path.relpath(path, os.fsencode(self.plans))]
             self.assertEqual((one["outcome"], one["sha256"], one["bytes"], one["output"] is None), (outcome, digest(data), len(data), outcome != "recovered"))
             self.assertEqual(one["refusal"] is None, one["verdict"] != "damaged")
+
+    def test_what_is_not_known_is_no_number(self) -> None:
+        """Of a drawing that was cut, or whose map has a hole, nobody knows how many objects are lost: where some are known that is told as the least."""
+        data = drawn(2500, 9)
+        parts = layout(data)
+        self.assertGreater(len(parts.pages), 2)
+        holes = hole(hole(data, parts.frames[2000].place + 5, 200), parts.pages[0][0] + 4, 30)
+        for name, given in (("cut.dwg", data[: len(data) // 2]), ("flip.dwg", older(data)), ("map.dwg", holes)):
+            (self.plans / name).write_bytes(given)
+        table = self.grown(1, self.plans)
+        self.assertEqual([row["lost"] for row in table], ["?", "1", "?"])
+        self.assertEqual([row["detail"].partition("; lost: ")[2].partition(", at least")[0] for row in table], ["map end", "", "map page"])
+        self.assertRegex(table[2]["detail"], r"; lost: map page, at least [1-9]\d* objects$")
+        told = [json.loads(line) for line in tool("dwg-recover", "--tree", self.out, "--json", self.plans).stdout.splitlines()]
+        self.assertEqual([one["lost"] for one in told], [None, 1, None])
 
     def test_an_empty_drawing_is_written_where_that_is_wanted(self) -> None:
         write_all(self.plans, {b"a.dwg": FILES[b"nothing.dwg"]})
@@ -328,6 +379,21 @@ class Outcomes(Tree):
         self.grown(0, "--whole", "copy", self.plans)
         self.assertEqual((self.out / "plans" / name).read_bytes(), drawn(5, 5))
 
+    def test_a_copy_has_the_time_of_its_file(self) -> None:
+        """What is recovered has that of its making."""
+        for name, data, time_ns in (("a.dwg", drawn(5, 5), 10**18 + 123), ("b.dwg", older(drawn(5, 5)), 10**18), ("c.dwg", drawn(6, 6), -(10**9) + 5)):
+            (self.plans / name).write_bytes(data)
+            os.utime(self.plans / name, ns=(10**17, time_ns))
+        self.grown(1, "--whole", "copy", self.plans)
+        times = {path.name: path.stat().st_mtime_ns for path in (self.out / "plans").iterdir()}
+        self.assertEqual((times["a.dwg"], times["c.dwg"]), (10**18 + 123, -(10**9) + 5))
+        self.assertGreater(times["b.dwg"], 10**18)
+        # One that is changed and copied again has its new one.
+        (self.plans / "a.dwg").write_bytes(drawn(7, 7))
+        os.utime(self.plans / "a.dwg", ns=(10**17, 10**18 + 456))
+        self.grown(1, "--whole", "copy", self.plans)
+        self.assertEqual((self.out / "plans" / "a.dwg").stat().st_mtime_ns, 10**18 + 456)
+
     def test_long_names(self) -> None:
         (self.plans / ("x" * 251 + ".dwg")).write_bytes(older(drawn(5, 1)))
         (row,) = self.grown(5, self.plans)
@@ -347,6 +413,47 @@ class Outcomes(Tree):
     def test_nothing_found(self) -> None:
         (self.plans / "a.txt").write_bytes(b"text")
         self.assertIn("nothing was found", self.refused(66, self.plans))
+
+
+class Modes(Tree):
+    """What is written is no more open than what is read."""
+
+    def modes(self) -> Dict[str, str]:
+        """The permissions of all below OUT but LOG, by their names."""
+        return {str(path.relative_to(self.out)): f"{path.stat().st_mode & 0o7777:o}" for path in self.out.rglob("*") if path.name != LOG}
+
+    def setUp(self) -> None:
+        super().setUp()
+        before = os.umask(0o022)
+        self.addCleanup(os.umask, before)
+        for folder, mode in (("plans", 0o700), ("plans/deep", 0o770), ("plans/read", 0o555)):
+            (self.folder / folder).mkdir(exist_ok=True)
+            for name, data in (("a.dwg", older(drawn(5, 5))), ("b.dwg", drawn(5, 5))):
+                path = self.folder / folder / name
+                path.write_bytes(data)
+                path.chmod({0o700: 0o600, 0o770: 0o666, 0o555: 0o444}[mode])
+            (self.folder / folder).chmod(mode)
+
+    def test_outputs_and_folders(self) -> None:
+        for words in ([self.plans], [self.plans / "."], [f"{self.plans}/"]):
+            self.grown(1, "--whole", "copy", *words)
+            expected = {"plans": "700", "plans/deep": "750", "plans/read": "755"}
+            for folder, mode in (("plans", "600"), ("plans/deep", "644"), ("plans/read", "444")):
+                expected.update({f"{folder}/{name}": mode for name in ("a.dwg", "a.dwg.notes", "b.dwg")})
+            self.assertEqual(self.modes(), expected, words)
+            shutil.rmtree(self.out)
+        # A file that is named has no folder.
+        self.grown(1, self.plans / "a.dwg")
+        self.assertEqual(self.modes(), {"a.dwg": "600", "a.dwg.notes": "600"})
+
+    def test_what_is_replaced(self) -> None:
+        self.grown(1, self.plans)
+        for name, mode in (("a.dwg", 0o644), ("a.dwg.notes", 0o400)):
+            (self.out / "plans" / name).chmod(mode)
+        (self.plans / "a.dwg").write_bytes(older(drawn(7, 7)))
+        self.grown(1, self.plans)
+        found = self.modes()
+        self.assertEqual((found["plans/a.dwg"], found["plans/a.dwg.notes"], found["plans/read/a.dwg"]), ("600", "400", "444"))
 
 
 class Refusals(Tree):
@@ -373,6 +480,17 @@ class Refusals(Tree):
         (self.plans / "--tree").write_bytes(self.data)
         ran = subprocess.run([str(TOOLS / "dwg-recover"), "--", "--tree", "o.dwg"], cwd=self.plans, capture_output=True, check=False, env={**os.environ, "DWG": made.PROGRAM})
         self.assertEqual((ran.returncode, (self.plans / "o.dwg").exists()), (1, True), ran.stderr)
+
+    def test_a_pipe_or_a_device_is_no_word(self) -> None:
+        os.mkfifo(self.plans / "fifo.dwg")
+        for word in (self.plans / "fifo.dwg", "/dev/null"):
+            said = f"dwg-recover: a tree is of files and folders, and {word} is a pipe or a device\n"
+            self.assertEqual(self.refused(64, self.plan, word), said)
+        environment = {**os.environ, "DWG": made.PROGRAM, "PATH": f"{TOOLS}:{os.environ['PATH']}"}
+        for script in ('cat "$2" | dwg-recover --tree "$1" /dev/stdin', 'dwg-recover --tree "$1" <(cat "$2")'):
+            ran = subprocess.run(["bash", "-c", script, "bash", str(self.out), str(self.plan)], capture_output=True, check=False, env=environment)
+            self.assertEqual((ran.returncode, ran.stdout, self.out.exists()), (64, b"", False), script)
+            self.assertRegex(ran.stderr.decode(), r"\Adwg-recover: a tree is of files and folders, and /dev/\S+ is a pipe or a device\n\Z")
 
     def test_out_in_what_is_read(self) -> None:
         (self.folder / "link").symlink_to("plans")
@@ -405,6 +523,28 @@ class Refusals(Tree):
                     self.assertEqual((row["outcome"], row["detail"]), ("refused", f"objects {self.index()}: check; {self.out}/plans/in is there, and no folder"))
             self.assertEqual((sorted(os.listdir(self.plans / "in")), os.listdir(self.folder / "elsewhere")), (["a.dwg"], []))
             shutil.rmtree(self.out)
+
+    def test_a_link_that_comes_meanwhile_leads_nowhere(self) -> None:
+        """What another puts in place of a folder below OUT, at whatever moment, is neither written to nor removed from."""
+        victim = {"a.dwg": drawn(7, 7), "a.dwg.notes": b"precious"}
+        moments = ("growing.Growing.folder", "outputs.WholeFile.__enter__", "outputs.WholeFile.finish", "growing.Growing.place_alone", "outputs.WholeFile.place")
+        for moment in moments:
+            for data in (self.data, drawn(5, 5)):
+                with self.subTest(moment=moment, is_whole=data != self.data):
+                    elsewhere = self.folder / "elsewhere"
+                    for folder in (elsewhere, self.out):
+                        shutil.rmtree(folder, ignore_errors=True)
+                    self.plan.write_bytes(older(drawn(9, 1)))
+                    self.grown(1, self.plans)
+                    self.plan.write_bytes(data)
+                    elsewhere.mkdir()
+                    for name, content in victim.items():
+                        (elsewhere / name).write_bytes(content)
+                    swapping = SWAPPING.format(moment=moment, folder=str(self.place.parent), elsewhere=str(elsewhere))
+                    ran = test_limits.otherwise("dwg-recover", swapping, "--program", made.PROGRAM, "--force", "--whole", "copy", "--tree", self.out, self.plans)
+                    self.assertIn(ran.returncode, (0, 1, 73), ran.stdout)
+                    self.assertEqual({path.name: path.read_bytes() for path in elsewhere.iterdir()}, victim)
+                    self.assertEqual([path.name for path in self.out.rglob("*.part")], [])
 
     def index(self) -> str:
         """The first fault of the drawing, without its reason."""
@@ -451,6 +591,26 @@ class Refusals(Tree):
         (row,) = self.grown(73, "--whole", "copy", self.plans)
         self.assertEqual((row["outcome"], self.standing()), ("refused", (self.answer.stdout, self.answer.stderr + b"mine")))
         self.grown(0, "--force", "--whole", "copy", self.plans)
+        self.assertEqual((self.place.read_bytes(), notes.exists()), (drawn(5, 5), False))
+
+    def test_a_copy_that_cannot_be_placed_leaves_what_was_there(self) -> None:
+        self.grown(1, self.plans)
+        before, notes = tree_of(self.out), Path(f"{self.place}.notes")
+        next(self.plans.rglob("*.dwg")).write_bytes(drawn(5, 5))
+        for names, is_back in (((".dwg",), True), ((".dwg", ".dwg.notes"), False)):
+            ran = test_limits.otherwise("dwg-recover", NO_RENAME.format(names=names), "--program", made.PROGRAM, "--whole", "copy", "--tree", self.out, self.plans)
+            (row,) = rows(ran.stdout)
+            self.assertEqual((ran.returncode, row["outcome"], row["output"]), (5, "failed", ""), ran.stderr)
+            self.assertIn(f"{self.place} can't be written: Operation not permitted", row["detail"])
+            if is_back:
+                self.assertEqual(tree_of(self.out), before)
+            else:
+                # What can't be put back is told, and isn't lost.
+                found = re.search(rf"what was {re.escape(str(notes))} before is in ({re.escape(str(notes.parent))}/\S+\.part)", row["detail"])
+                assert found
+                os.rename(found[1], notes)
+                self.assertEqual(tree_of(self.out), before)
+        self.grown(0, "--whole", "copy", self.plans)
         self.assertEqual((self.place.read_bytes(), notes.exists()), (drawn(5, 5), False))
 
     def test_a_log_that_is_a_link(self) -> None:
@@ -559,36 +719,56 @@ class Resumed(Tree):
         program = self.noting()
         for whole in ("skip", "copy"):
             words = ["--program", program, "--whole", whole, self.plans]
-            table = self.grown(65, *words)
+            table = self.grown(1, *words)
             self.runs()
             before, lines = state_below(self.out), len(self.logged())
             for _ in range(2):
-                self.assertEqual(self.grown(65, *words), table)
+                self.assertEqual(self.grown(1, *words), table)
                 self.assertEqual((self.runs(), len(self.logged())), ([], lines))
             self.assertEqual(state_below(self.out), before)
         # What is gone is done again, and that alone.
         (self.out / "plans" / "flips" / "5.dwg").unlink()
         (self.out / "plans" / "flips" / "20.dwg.notes").unlink()
-        self.assertEqual(self.grown(65, *words), table)
+        self.assertEqual(self.grown(1, *words), table)
         self.assertEqual((sorted(self.runs()), len(self.logged())), (["audit", "audit", "recover", "recover"], lines))
         self.assertEqual(tree_of(self.out), expected_tree("plans", self.files, True))
         # A tree that was moved, and inputs that were, are known by their contents.
         os.rename(self.plans, self.folder / "moved")
         os.rename(self.out, self.folder / "plans")
         ran = tool("dwg-recover", "--tree", self.folder / "plans", "--program", program, "--whole", "copy", self.folder / "moved")
-        self.assertEqual((ran.returncode, self.runs().count("audit")), (65, len(expected_tree("x", self.files)) // 2))
+        self.assertEqual((ran.returncode, self.runs().count("audit")), (1, len(expected_tree("x", self.files)) // 2))
 
     def test_another_program_recovers_anew(self) -> None:
         program = self.noting()
-        self.grown(65, self.plans)
+        self.grown(1, self.plans)
         before = tree_of(self.out)
-        self.grown(65, "--program", program, self.plans)
+        self.grown(1, "--program", program, self.plans)
         self.assertEqual((self.runs().count("recover") >= len(before) // 2, tree_of(self.out)), (True, before))
+
+    def test_what_log_has_is_made_of_the_content_that_has_the_sha_256(self) -> None:
+        """Whoever changes a file while it is recovered, and leaves size and time as they are, changes no line of LOG, nor what is written."""
+        for command in ("audit", "recover"):
+            with self.subTest(command):
+                source = self.plans / "x.dwg"
+                data = drawn(8, 1)
+                contents = [flipped(data, frame.place + 4) for frame in layout(data).frames[-2:]]
+                source.write_bytes(contents[0])
+                (self.folder / "other").write_bytes(contents[1])
+                change = f'touch -r "{source}" "{self.folder}/stamp"; cp "{self.folder}/other" "{source}"; touch -r "{self.folder}/stamp" "{source}"'
+                program = program_that(self.folder, "changing", [f'[ "$1" != {command} ] || {{ {change}; }}', 'exec "$REAL" "$@"'])
+                ran = tool("dwg-recover", "--quiet", "--program", program, "--tree", self.out, source)
+                self.assertEqual((ran.returncode, source.read_bytes()), (1, contents[1]), ran.stderr)
+                answer = dwg("recover", given=contents[0])
+                self.assertNotEqual(answer.stdout, dwg("recover", given=contents[1]).stdout)
+                self.assertEqual(tree_of(self.out), {b"x.dwg": answer.stdout, b"x.dwg.notes": answer.stderr})
+                (line,) = self.logged()
+                self.assertEqual((line["sha256"], line["made"]["sha256"], line["made"]["notes"]), (digest(contents[0]), digest(answer.stdout), digest(answer.stderr)))
+                shutil.rmtree(self.out)
 
     def test_a_changed_input(self) -> None:
         """What has another content is done again, though size and time of change are the same; what was there of it may be replaced."""
         first, second = self.plans / "flips" / "20.dwg", self.plans / "flips" / "5.dwg"
-        self.grown(65, self.plans)
+        self.grown(1, self.plans)
         told = first.stat()
         data = drawn(20, 20)
         frame = layout(data).frames[3]
@@ -597,19 +777,49 @@ class Resumed(Tree):
         first.write_bytes(changed)
         os.utime(first, ns=(told.st_mtime_ns, told.st_mtime_ns))
         second.write_bytes(drawn(5, 5))
-        rows_by_path = {row["path"]: row for row in self.grown(65, "--program", self.noting(), self.plans)}
+        rows_by_path = {row["path"]: row for row in self.grown(1, "--program", self.noting(), self.plans)}
         answer = dwg("recover", given=changed)
         self.assertEqual(((self.out / "plans" / "flips" / "20.dwg").read_bytes(), (self.out / "plans" / "flips" / "20.dwg.notes").read_bytes()), (answer.stdout, answer.stderr))
         # One that is whole now leaves what was recovered of it, which is told; a copy takes its place, without the notes.
         place = self.out / "plans" / "flips" / "5.dwg"
         row = rows_by_path[str(second)]
         self.assertEqual((row["outcome"], row["output"], row["detail"]), ("sound", "", f"{place} is there from before"))
-        self.grown(65, "--whole", "copy", self.plans)
+        self.grown(1, "--whole", "copy", self.plans)
         self.assertEqual((place.read_bytes(), Path(f"{place}.notes").exists()), (drawn(5, 5), False))
-        # And a damaged one that of a copy.
-        second.write_bytes(older(drawn(5, 5)))
-        self.grown(65, "--whole", "copy", self.plans)
-        self.assertEqual((place.read_bytes(), Path(f"{place}.notes").exists()), (dwg("recover", given=second.read_bytes()).stdout, True))
+
+    def test_what_is_whole_gives_way_to_nothing_that_is_not(self) -> None:
+        """The copy that an earlier run made is perhaps the last good one: what is recovered later doesn't replace it, and the line says so."""
+        source, place = self.plans / "sound" / "5.dwg", self.out / "sound" / "5.dwg"
+        data, words = drawn(5, 5), ("--whole", "copy", self.plans / "sound")
+        self.grown(0, *words)
+        source.write_bytes(older(data))
+        for whole in (words, words[2:]):
+            for _ in range(2):
+                before, lines = state_below(self.out), self.logged()
+                (row,) = [row for row in self.grown(73, *whole) if row["path"] == str(source)]
+                self.assertEqual((row["outcome"], row["status"], row["kept"], row["output"]), ("refused", "73", "", ""))
+                self.assertTrue(row["detail"].endswith(f"; {place} is whole, and what is recovered isn't; --force replaces it"), row)
+                self.assertEqual((state_below(self.out), self.logged()), (before, lines))
+        # Another state that is whole takes its place, and then what is recovered takes none either.
+        for again in (drawn(6, 6), data):
+            source.write_bytes(again)
+            self.grown(0, *words)
+            self.assertEqual(place.read_bytes(), again)
+        source.write_bytes(older(drawn(7, 7)))
+        self.grown(73, *words)
+        self.grown(1, "--force", *words)
+        answer = dwg("recover", given=source.read_bytes())
+        self.assertEqual((place.read_bytes(), Path(f"{place}.notes").read_bytes()), (answer.stdout, answer.stderr))
+        # What has losses itself is replaced.
+        source.write_bytes(older(data))
+        self.assertEqual([row["outcome"] for row in self.grown(1, *words) if row["path"] == str(source)], ["recovered"])
+        self.assertEqual(place.read_bytes(), dwg("recover", given=source.read_bytes()).stdout)
+
+    def test_what_is_whole(self) -> None:
+        lossy = {"lost": 0, "parts": {"map end": 1}}, {"lost": 1}, {"lost": None}
+        for told, is_whole in (({"notes": None}, True), ({"lost": 0}, True), *((told, False) for told in lossy)):
+            made_of: Dict[str, Any] = {"notes": "1" * 64, **told}
+            self.assertEqual(Made("a.dwg", "0" * 64, **made_of).is_whole, is_whole, told)
 
     def test_what_is_placed_is_in_the_log_before(self) -> None:
         """Whatever ends a run once an output stands, a later one knows it again, though the input has another content then."""
@@ -618,7 +828,7 @@ class Resumed(Tree):
         grower.one, grower.out = Planned("a.dwg", None, "a.dwg"), "a.dwg"
         grower.tree = SimpleNamespace(add=lambda line: order.append(f"log {line.made.output}"))
         grower.grower = SimpleNamespace(alone=lambda file: contextlib.nullcontext())
-        grower.may_replace = lambda file, files: None
+        grower.may_replace = lambda file, made, files: None
         whole = SimpleNamespace(finish=lambda: None)
         grower.place(None, Line("a.dwg"), Made("a.dwg", "0" * 64), [(whole, "")], lambda: order.append("place"))
         self.assertEqual(order[:2], ["log a.dwg", "place"])
@@ -657,12 +867,12 @@ class Resumed(Tree):
                     started.send_signal(number)
                     _, said = started.communicate(timeout=60)
                 # (a run that is about to end may end by itself)
-                self.assertIn((started.returncode, b"" if status != started.returncode else said), ((status, b""), (65, b"")))
+                self.assertIn((started.returncode, b"" if status != started.returncode else said), ((status, b""), (1, b"")))
                 self.check_partial(expected, number != signal.SIGKILL)
                 now = len([name for name in tree_of(self.out) if not name.endswith(b".part")])
                 self.assertGreaterEqual(now, done)
                 done = now
-            table = self.grown(65, "--program", slow, "--whole", "copy", self.plans)
+            table = self.grown(1, "--program", slow, "--whole", "copy", self.plans)
             whole = whole or table
             self.assertEqual(table, whole)
             for path in self.parts():
@@ -703,7 +913,7 @@ outputs.WholeFile.place = killing
     def test_a_log_that_is_gone_or_damaged(self) -> None:
         """Without LOG what stands is known by its content, which follows from the input's."""
         expected = expected_tree("plans", self.files, True)
-        table = self.grown(65, "--whole", "copy", self.plans)
+        table = self.grown(1, "--whole", "copy", self.plans)
         before = state_below(self.out / "plans")
         log = self.out / LOG
         lines = log.read_bytes().splitlines(keepends=True)
@@ -712,7 +922,7 @@ outputs.WholeFile.place = killing
             if damage:
                 log.write_bytes(damage)
             ran = tool("dwg-recover", "--tree", self.out, "--whole", "copy", self.plans)
-            self.assertEqual((ran.returncode, rows(ran.stdout), tree_of(self.out)), (65, table, expected))
+            self.assertEqual((ran.returncode, rows(ran.stdout), tree_of(self.out)), (1, table, expected))
             self.assertEqual(b"damaged line is passed" in ran.stderr, bool(damage), ran.stderr)
         self.assertEqual({path: told[2] for path, told in before.items()}, {path: told[2] for path, told in state_below(self.out / "plans").items()})
 
@@ -741,11 +951,11 @@ outputs.WholeFile.place = killing
             self.assertEqual((self.out / "5.dwg").read_bytes(), dwg("recover", given=name.read_bytes()).stdout)
 
     def test_dwg_check_reads_the_log(self) -> None:
-        self.grown(65, self.plans)
+        self.grown(1, self.plans)
         ran = tool("dwg-check", "--quiet", "--resume", self.out / LOG, self.plans)
         self.assertEqual((ran.returncode, ran.stderr), (1, b""))
         self.assertEqual(ran.stdout, tool("dwg-check", "--quiet", self.plans).stdout)
-        self.assertEqual(len(self.grown(65, self.plans)), len(self.files))
+        self.assertEqual(len(self.grown(1, self.plans)), len(self.files))
 
 
 class Faults(Tree):
@@ -767,7 +977,7 @@ class Faults(Tree):
             ('[ "$1" != recover ] || { echo "dwg: drawing too large: 33554433 bytes" >&2; exit 8; }', "failed", "drawing too large: 33554433 bytes", 8),
             ('[ "$1" != recover ] || exit 77', "failed", "status 77", 69),
             ('[ "$1" != recover ] || { kill -SEGV $$; sleep 5; }', "failed", "killed by signal 11", 69),
-            ('[ "$1" != recover ] || { "$REAL" recover | head -c 700; exit 1; }', "failed", "what it wrote is read as no drawing", 69),
+            ('[ "$1" != recover ] || { "$REAL" recover | { head -c 700; cat >/dev/null; }; exit 1; }', "failed", "what it wrote is read as no drawing", 69),
             ('[ "$1" != recover ] || { "$REAL" recover 2>/dev/null; exit 1; }', "failed", "aren't", 69),
             ('[ "$1" != recover ] || { "$REAL" recover 2>/dev/null; printf "dwg: refused: x 99999999999999999999 at 1: y\\n\\377\\n" >&2; exit 1; }', "failed", "no note of `recover`", 69),
             ('[ "$1" != audit ] || exit 6', "failed", "no memory", 6),
@@ -803,20 +1013,28 @@ class Faults(Tree):
         return subprocess.run(said, capture_output=True, check=False, preexec_fn=limit, timeout=100)
 
     def test_a_full_disk(self) -> None:
-        size = len(self.expected[b"plans/b.dwg"])
-        self.assertTrue(len(self.expected[b"plans/a.dwg"]) < size < len(self.expected[b"plans/c.dwg"]))
-        for whole in ("skip", "copy"):
-            (self.plans / "whole.dwg").write_bytes(drawn(20, 20))
-            ran = self.limited(size, "--whole", whole)
-            table = rows(ran.stdout)
-            self.assertEqual([row["outcome"] for row in table], ["recovered", "recovered", "failed", "failed" if whole == "copy" else "sound"])
-            self.assertEqual((table[2]["status"], "can't be written" in table[2]["detail"]), ("5", True))
-            self.assertEqual(ran.returncode, 5 if b"isn't kept" not in ran.stderr else 70)
-            self.assertEqual(tree_of(self.out), {name: data for name, data in self.expected.items() if b"c.dwg" not in name})
-            # With room it goes on.
-            self.grown(1, "--whole", whole, self.plans)
-            self.assertEqual(set(tree_of(self.out)) - {b"plans/whole.dwg"}, set(self.expected))
-            shutil.rmtree(self.out)
+        for name, size in (("a.dwg", 5), ("b.dwg", 6), ("c.dwg", 7)):
+            # (of what is cut in its map more is written than is read)
+            data = drawn(size, size)
+            (self.plans / name).write_bytes(data[: layout(data).map + 4])
+        expected = expected_tree("plans", {os.fsencode(path.name): (path.read_bytes(), "recovered") for path in self.plans.iterdir()})
+        size = len(expected[b"plans/b.dwg"])
+        self.assertTrue((self.plans / "c.dwg").stat().st_size < size < len(expected[b"plans/c.dwg"]))
+        ran = self.limited(size)
+        table = rows(ran.stdout)
+        self.assertEqual([row["outcome"] for row in table], ["recovered", "recovered", "failed"])
+        self.assertEqual((table[2]["status"], "can't be written" in table[2]["detail"]), ("5", True))
+        self.assertEqual(ran.returncode, 5 if b"isn't kept" not in ran.stderr else 70)
+        self.assertEqual(tree_of(self.out), {name: data for name, data in expected.items() if b"c.dwg" not in name})
+        # With room it goes on.
+        self.grown(1, self.plans)
+        self.assertEqual(tree_of(self.out), expected)
+
+    def test_a_file_of_which_no_copy_can_be_kept(self) -> None:
+        (self.plans / "large.dwg").write_bytes(drawn(100, 1))
+        self.assertGreater((self.plans / "large.dwg").stat().st_size, 6000)
+        table = rows(self.limited(6000).stdout)
+        self.assertEqual(([row["outcome"] for row in table], table[3]["detail"]), (["recovered"] * 3 + ["failed"], "no copy of it can be kept: File too large"))
 
     def test_a_log_on_a_full_disk_is_told_at_once(self) -> None:
         for index in range(30):
@@ -834,17 +1052,18 @@ class Faults(Tree):
             self.skipTest("a small file system, as none can be mounted")
         self.addCleanup(subprocess.run, ["umount", str(mount)], check=False)
         for index in range(20):
-            (self.plans / f"{index}.dwg").write_bytes(older(drawn(40, index)))
+            (self.plans / f"{index}.dwg").write_bytes(older(drawn(40, index)) if index % 2 else drawn(40, index))
         self.out = mount / "out"
-        ran = tool("dwg-recover", "--tree", self.out, self.plans)
+        ran = tool("dwg-recover", "--whole", "copy", "--tree", self.out, self.plans)
         self.assertIn(ran.returncode, (5, 70))
         table = rows(ran.stdout)
-        self.assertEqual((len(table), {row["status"] for row in table}), (23, {"1", "5"}))
+        self.assertEqual((len(table), {row["status"] for row in table}), (23, {"0", "1", "5"}))
         for name, data in tree_of(self.out).items():
             self.assertFalse(name.endswith(b".part"))
             source = (self.plans / os.path.basename(os.fsdecode(name)).replace(".notes", "")).read_bytes()
             answer = dwg("recover", given=source)
-            self.assertEqual(data, answer.stderr if name.endswith(b".notes") else answer.stdout)
+            is_whole = answer.returncode == 0
+            self.assertEqual(data, answer.stderr if name.endswith(b".notes") else source if is_whole else answer.stdout)
 
     def test_closed_and_full_outputs(self) -> None:
         environment = {**os.environ, "DWG": made.PROGRAM, "PATH": f"{TOOLS}:{os.environ['PATH']}"}
@@ -887,6 +1106,27 @@ class Faults(Tree):
         ran = tool("dwg-recover", "--program", program, "--tree", self.out, self.plans)
         self.assertEqual((ran.returncode, [row["outcome"] for row in rows(ran.stdout)], place.read_bytes()), (73, ["recovered", "refused", "recovered"], b"precious\n"))
 
+    def test_a_folder_that_another_run_keeps_is_waited_for_once(self) -> None:
+        (self.plans / "other").mkdir()
+        (self.plans / "other" / "d.dwg").write_bytes(self.lost["a.dwg"])
+        (self.out / "plans").mkdir(parents=True)
+        waiting = "import os\npairs.MOST_WAITING = 2.0\nslept = time.sleep\ndef told(seconds):\n    os.write(2, b'w' if seconds == 0.02 else b'')\n    slept(seconds)\npairs.time.sleep = told"
+        words = ["--program", made.PROGRAM, "--quiet", "--jobs", 2, "--tree", self.out, self.plans]
+        handle = os.open(self.out / "plans", os.O_RDONLY)
+        try:
+            fcntl.flock(handle, fcntl.LOCK_EX)
+            ran = test_limits.otherwise("dwg-recover", waiting, *words)
+        finally:
+            os.close(handle)
+        details = [row["detail"].partition("; ")[2] for row in rows(ran.stdout)]
+        self.assertEqual((ran.returncode, details), (73, [f"{self.out}/plans is locked by another run"] * 3 + [""]))
+        # (a wait looks at the lock again every 0.02 seconds)
+        self.assertTrue(0 < ran.stderr.count(b"w") <= 100, ran.stderr)
+        self.assertEqual(set(tree_of(self.out)), {b"plans/other/d.dwg", b"plans/other/d.dwg.notes"})
+        # A lock that is free again is taken.
+        self.grown(1, self.plans)
+        self.assertEqual(len(tree_of(self.out)), 8)
+
     def test_the_program_is_ended_with_the_tool(self) -> None:
         begun = self.folder / "begun"
         endless = program_that(self.folder, "endless", ['[ "$1" != recover ] || { head -c 100 /dev/zero; echo $$ >>"' + str(begun) + '"; exec sleep 300; }', 'exec "$REAL" "$@"'])
@@ -901,6 +1141,67 @@ class Faults(Tree):
             for process in map(int, begun.read_text().split()):
                 self.assertFalse(test_limits.is_running(process))
             begun.unlink()
+
+
+class Before(Tree):
+    """What stands below OUT of a file that can't be read any more is told, and left."""
+
+    def setUp(self) -> None:
+        super().setUp()
+        (self.plans / "in").mkdir()
+        self.plan, self.place = self.plans / "in" / "b.dwg", self.out / "plans" / "in" / "b.dwg"
+        for name, size in (("a.dwg", 5), ("in/b.dwg", 6), ("in/c.dwg", 7)):
+            (self.plans / name).write_bytes(older(drawn(size, size)))
+        self.grown(1, self.plans)
+        self.before = tree_of(self.out)
+
+    def test_one_that_cannot_be_read_any_more(self) -> None:
+        failing = program_that(self.folder, "failing", ['[ "$1" != audit ] || exit 77', 'exec "$REAL" "$@"'])
+        self.plan.unlink()
+        os.mkfifo(self.plan)
+        self.check("unreadable", "no regular file", 4)
+        self.plan.unlink()
+        self.plan.write_bytes(bytes(8) + b"\x80" * 33_554_433)
+        self.check("too large", "more than 33554432 bytes", 7)
+        self.plan.write_bytes(older(drawn(9, 9)))
+        self.check("failed", "status 77", 69, "--program", failing)
+        if os.getuid():
+            self.plan.chmod(0)
+            self.check("unreadable", "Permission denied", 4)
+
+    def check(self, outcome: str, why: str, status: int, *words: object) -> None:
+        """The line of the file, in a run over the folder, tells what stands of it."""
+        row = self.grown(status, *words, self.plans)[1]
+        self.assertEqual((row["outcome"], row["status"], row["output"], row["detail"]), (outcome, str(status), "", f"{why}; {self.place} is there from before"))
+        self.assertEqual(tree_of(self.out), self.before)
+
+    def test_a_word_that_is_not_there_any_more(self) -> None:
+        words = [self.plans / "a.dwg", self.plans / "in"]
+        self.grown(1, *words)
+        before = tree_of(self.out)
+        shutil.rmtree(self.plans / "in")
+        (self.plans / "a.dwg").unlink()
+        details = [row["detail"] for row in self.grown(4, *words)]
+        self.assertEqual(details, [f"No such file or directory; {self.out}/{name} is there from before" for name in ("a.dwg", "in")])
+        self.assertEqual(tree_of(self.out), before)
+
+    def test_one_that_is_not_there_any_more(self) -> None:
+        """No line of the table is of it."""
+        self.plan.unlink()
+        said = f"dwg-recover: an output stands whose file isn't there any more: {self.place}\n"
+        self.assertEqual(len(self.grown(1, self.plans, said=f"{said}dwg-recover: 2 files: 2 recovered\n")), 2)
+        self.assertEqual(len(self.grown(1, "--quiet", self.plans, said=said)), 2)
+        (self.plans / "in" / "c.dwg").unlink()
+        said = f"dwg-recover: 2 outputs stand whose files aren't there any more, the first is {self.place}\n"
+        self.grown(1, "--quiet", self.plans, said=said)
+        self.assertEqual(tree_of(self.out), self.before)
+        # What isn't of the folders of this run isn't told, nor what isn't looked at, nor what is gone too.
+        self.grown(1, "--quiet", self.plans / "a.dwg", said="")
+        self.place.unlink()
+        os.rename(self.plans / "a.dwg", self.plans / "a.bak")
+        self.plan.write_bytes(drawn(3, 3))
+        said = f"dwg-recover: 2 outputs stand whose files aren't there any more, the first is {self.out}/plans/a.dwg\n"
+        self.grown(0, "--quiet", self.plans, said=said)
 
 
 class Recipe(Tree):

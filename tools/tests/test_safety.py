@@ -16,6 +16,7 @@ import subprocess
 import sys
 import time
 import unittest
+import unittest.mock
 from pathlib import Path
 from typing import Any, Callable, Dict, List, Sequence
 
@@ -25,11 +26,14 @@ import spelled
 import test_limits
 from made import TOOLS, flipped, layout, made as drawn, program_that, tool
 
+from dwgtools.outputs import WholeFile, write_whole
+
 # How each tool that writes a file is told to, with the input and the output.
 WRITERS: Dict[str, Callable[[object, object], List[object]]] = {
     "dwg-json": lambda source, out: [source, "--output", out],
     "dwg-picture": lambda source, out: [source, "--output", out],
     "dwg-recover": lambda source, out: [source, out],
+    "dwg-info": lambda source, out: [source, "--output", out],
 }
 
 # Each tool over one drawing.
@@ -39,6 +43,7 @@ ALL: Dict[str, Callable[[object], List[object]]] = {
     "dwg-diff": lambda source: [source, source],
     "dwg-check": lambda source: [source],
     "dwg-recover": lambda source: [source, "-"],
+    "dwg-info": lambda source: [source],
 }
 
 
@@ -87,7 +92,7 @@ class Outputs(common.InFolder):
 
     def test_an_output_that_is_standard_input_is_refused(self) -> None:
         path = self.file("a.dwg", drawn(3, 1))
-        for name in ("dwg-json", "dwg-picture"):
+        for name in ("dwg-json", "dwg-picture", "dwg-info", "dwg-info --layers"):
             self.assertEqual(in_bash(f'{name} --output "$1" --force < "$1"', path).returncode, 73)
         self.assertEqual(in_bash('dwg-recover --force - "$1" < "$1"', path).returncode, 73)
         older = self.file("b.dwg", drawn(4, 1))
@@ -96,7 +101,7 @@ class Outputs(common.InFolder):
 
     def test_a_table_or_text_is_not_added_to_the_input(self) -> None:
         path, other = self.file("a.dwg", drawn(3, 1)), self.file("b.dwg", drawn(4, 1))
-        for script, status in (('dwg-json "$1" >> "$1"', 73), ('dwg-picture "$1" >> "$1"', 73), ('dwg-diff "$2" "$1" >> "$1"', 2), ('dwg-check "$1" >> "$1"', 73), ('dwg-recover "$1" - >> "$1"', 73), ('dwg-recover "$1" "$2.out" >> "$1"', 73), ('dwg-json < "$1" >> "$1"', 73)):
+        for script, status in (('dwg-json "$1" >> "$1"', 73), ('dwg-picture "$1" >> "$1"', 73), ('dwg-diff "$2" "$1" >> "$1"', 2), ('dwg-check "$1" >> "$1"', 73), ('dwg-recover "$1" - >> "$1"', 73), ('dwg-recover "$1" "$2.out" >> "$1"', 73), ('dwg-json < "$1" >> "$1"', 73), ('dwg-info "$1" >> "$1"', 73), ('dwg-info --json < "$1" >> "$1"', 73), ('dwg-info --preview - "$1" >> "$1"', 73)):
             self.assertEqual(in_bash(script, path, other).returncode, status, script)
             self.assertEqual(path.read_bytes(), drawn(3, 1), script)
 
@@ -146,7 +151,7 @@ class Outputs(common.InFolder):
                 ran = subprocess.run(said, capture_output=True, check=False, preexec_fn=limited_to(size))
                 if size < 9000:
                     # (a picture goes to a temporary file first, and where nothing at all can be written there is none)
-                    status = 70 if name == "dwg-picture" or (name == "dwg-json" and not size) else 5
+                    status = 70 if name == "dwg-picture" or (name in ("dwg-json", "dwg-info") and not size) else 5
                     self.assertEqual((ran.returncode, ran.stdout), (status, b""), (name, size, ran.stderr))
                 for left in ("out", "out.notes"):
                     (self.folder / left).unlink() if ran.returncode < 2 and (self.folder / left).exists() else None
@@ -154,7 +159,7 @@ class Outputs(common.InFolder):
 
     def test_an_output_that_cannot_be_written_is_named(self) -> None:
         path = self.file("a.dwg", drawn(30, 1))
-        for name in ("dwg-json", "dwg-picture"):
+        for name in ("dwg-json", "dwg-picture", "dwg-info"):
             out = self.folder / "no" / "o\tut"
             ran = tool(name, *WRITERS[name](path, out))
             said = f"{name}: {self.folder}/no/o\\tut can't be written: No such file or directory\n"
@@ -168,15 +173,15 @@ class Outputs(common.InFolder):
 
     def test_a_temporary_file_that_cannot_be_written_is_told_as_one(self) -> None:
         """What is full is told, and no input or output is called bad for it."""
-        path, text = self.file("a.dwg", drawn(300, 1)), self.file("text", b"drawing of too few words")
+        path, text, cut = self.file("a.dwg", drawn(300, 1)), self.file("text", b"drawing of too few words"), self.file("cut.dwg", drawn(3, 1)[:60])
         (self.folder / "temporary").mkdir()
         name = f"the temporary file in {self.folder}/temporary"
         piped = [
-            ("dwg-json", ["-"], 70, path), ("dwg-picture", ["-"], 70, path), ("dwg-diff", ["-", path], 2, path),
+            ("dwg-json", ["-"], 70, path), ("dwg-picture", ["-"], 70, path), ("dwg-diff", ["-", path], 2, path), ("dwg-info", ["-"], 70, path),
             ("dwg-recover", ["-", self.folder / "out"], 70, path), ("dwg-recover", ["--before", "-", path, self.folder / "out"], 70, path),
             ("dwg-recover", [path, "-"], 70, None),
             # The notes of the program are in one too.
-            ("dwg-json", [text], 70, None), ("dwg-diff", [path, text], 2, None),
+            ("dwg-json", [text], 70, None), ("dwg-diff", [path, text], 2, None), ("dwg-info", [cut], 70, None),
         ]  # fmt: skip
         for tool_name, words, status, given in piped:
             with self.subTest(tool_name, words=words):
@@ -187,7 +192,7 @@ class Outputs(common.InFolder):
                 self.assertEqual((ran.returncode, ran.stdout), (status, b""), ran.stderr)
                 self.assertRegex(ran.stderr.decode(), rf"\A{tool_name}: {re.escape(name)}( can't be written|: File too large)\n\Z")
         # So is one that can't be made, whichever it is of those that a tool makes, and nothing is left of an output that isn't there.
-        for tool_name, words, status in (("dwg-json", [path], 70), ("dwg-picture", [path], 70), ("dwg-diff", [path, path], 2), ("dwg-recover", [path, self.folder / "out"], 70)):
+        for tool_name, words, status in (("dwg-json", [path], 70), ("dwg-picture", [path], 70), ("dwg-info", [path], 70), ("dwg-diff", [path, path], 2), ("dwg-recover", [path, self.folder / "out"], 70)):
             for count in range(8):
                 for left in ("out", "out.notes"):
                     (self.folder / left).unlink(missing_ok=True)
@@ -204,7 +209,49 @@ class Outputs(common.InFolder):
         ran = subprocess.run(said, capture_output=True, check=False, preexec_fn=limited_to(0))
         self.assertEqual((ran.returncode, ran.stdout), (70, b""), ran.stderr)
         self.assertTrue(ran.stderr.startswith(b"dwg-json: a temporary file: No usable temporary directory found in "), ran.stderr)
-        self.assertEqual(sorted(os.listdir(self.folder)), ["a.dwg", "out", "out.notes", "temporary", "text"])
+        self.assertEqual(sorted(os.listdir(self.folder)), ["a.dwg", "cut.dwg", "out", "out.notes", "temporary", "text"])
+
+    def test_a_temporary_file_that_stays_is_told(self) -> None:
+        """As in a folder to which files can only be added."""
+        data = drawn(20, 1)
+        path = self.file("a.dwg", data)
+        (self.folder / "plans").mkdir()
+        (self.folder / "plans" / "a.dwg").write_bytes(flipped(data, layout(data).frames[9].place + 5))
+        keeping = """
+import os
+unlink = os.unlink
+def kept(name, **more):
+    if str(name).endswith(".part"):
+        raise PermissionError(1, "Operation not permitted")
+    unlink(name, **more)
+os.unlink = kept
+"""
+        runs = [(name, 0, words(path, self.folder / "new" / "out")) for name, words in WRITERS.items()]
+        for name, status, words in (*runs, ("dwg-recover", 1, ["--quiet", "--tree", self.folder / "new", self.folder / "plans"])):
+            (self.folder / "new").mkdir()
+            ran = test_limits.otherwise(name, keeping, "--program", made.PROGRAM, *words)
+            left = sorted(map(str, (self.folder / "new").rglob("*.part")))
+            said = sorted(line for line in ran.stderr.decode().splitlines() if line.endswith("is left there, and can't be removed: Operation not permitted"))
+            self.assertEqual((ran.returncode, said), (status, [f"{name}: {one} is left there, and can't be removed: Operation not permitted" for one in left]), (name, ran.stderr))
+            self.assertEqual(len(left), 2 if name == "dwg-recover" else 1)
+            shutil.rmtree(self.folder / "new")
+
+    @unittest.skipUnless(sys.platform == "linux", "renames that replace nothing, which Linux has")
+    def test_without_links_a_name_is_never_that_of_an_empty_file(self) -> None:
+        out = self.folder / "out"
+        with unittest.mock.patch.object(os, "link", side_effect=PermissionError(1, "Operation not permitted")), unittest.mock.patch.object(WholeFile, "_take_name", side_effect=AssertionError):
+            write_whole(str(out), b"one")
+            with self.assertRaises(FileExistsError):
+                write_whole(str(out), b"two")
+        self.assertEqual((out.read_bytes(), os.listdir(self.folder)), (b"one", ["out"]))
+
+    def test_without_such_a_rename_either(self) -> None:
+        out = self.folder / "out"
+        with unittest.mock.patch.object(os, "link", side_effect=PermissionError(1, "Operation not permitted")), unittest.mock.patch("dwgtools.outputs.renamed_to_new", return_value=False):
+            write_whole(str(out), b"one")
+            with self.assertRaises(FileExistsError):
+                write_whole(str(out), b"two")
+        self.assertEqual((out.read_bytes(), os.listdir(self.folder)), (b"one", ["out"]))
 
     def test_an_output_is_in_its_folder_wherever_that_is_moved(self) -> None:
         path = self.file("a.dwg", drawn(3, 1))
@@ -253,7 +300,7 @@ class Outputs(common.InFolder):
 
     def test_long_names(self) -> None:
         path = self.file("a.dwg", drawn(3, 1))
-        for name, out in (("dwg-json", "\u6587" * 85), ("dwg-picture", "x" * 255), ("dwg-recover", "\u6587" * 83), ("dwg-json", "\U0001f4d0" * 63)):
+        for name, out in (("dwg-json", "\u6587" * 85), ("dwg-picture", "x" * 255), ("dwg-recover", "\u6587" * 83), ("dwg-json", "\U0001f4d0" * 63), ("dwg-info", "\u6588" * 85)):
             ran = tool(name, *WRITERS[name](path, self.folder / out))
             self.assertEqual((ran.returncode, ran.stderr), (0, b""))
             self.assertTrue((self.folder / out).is_file())
@@ -277,6 +324,8 @@ class Inputs(common.InFolder):
             'dwg-json <(cat "$1")': tool("dwg-json", old),
             'cat "$1" | dwg-json -o -': tool("dwg-json", old),
             'dwg-picture <(cat "$1") -o -': tool("dwg-picture", old),
+            'cat "$1" | dwg-info | tail -n +2': in_bash('dwg-info "$1" | tail -n +2', old),
+            'dwg-info <(cat "$1") | tail -n +2': in_bash('dwg-info "$1" | tail -n +2', old),
             'mkfifo "$3"; cat "$1" >"$3" & dwg-json "$3"': tool("dwg-json", old),
         }
         for script, expected in same.items():
@@ -351,7 +400,7 @@ class Ends(common.InFolder):
     @unittest.skipUnless(os.path.exists("/dev/full"), "a full disk, as there is no /dev/full")
     def test_full_standard_streams(self) -> None:
         path = self.file("a.dwg", drawn(3, 1))
-        statuses = {"dwg-json": 5, "dwg-picture": 5, "dwg-diff": 0, "dwg-check": 70, "dwg-recover": 5}
+        statuses = {"dwg-json": 5, "dwg-picture": 5, "dwg-diff": 0, "dwg-check": 70, "dwg-recover": 5, "dwg-info": 5}
         for name, words in ALL.items():
             self.assertEqual(in_bash(f'{name} "$@" >/dev/full 2>/dev/full', *words(path)).returncode, statuses[name], name)
         # What a tool says of itself is an output as any other.
@@ -384,13 +433,26 @@ class Ends(common.InFolder):
                 ran = tool(name, *words(path), **{variable: value})
                 self.assertEqual((ran.returncode, ran.stdout, ran.stderr), (0, expected.stdout, expected.stderr), (name, variable))
 
+    def test_no_python(self) -> None:
+        """The status is that of the shell or of env, which the manual page names."""
+        place = self.folder / "bin"
+        place.mkdir()
+        for linked in ((), ("env",)):
+            for name in linked:
+                (place / name).symlink_to(str(shutil.which(name)))
+            for name in ALL:
+                ran = subprocess.run([str(TOOLS / name), "--help"], capture_output=True, check=False, env={"PATH": str(place)})
+                self.assertEqual((ran.returncode, ran.stdout), (127, b""))
+        said = (made.TOP / "docs" / "dwg-tools.7").read_text().partition(".Sh EXIT STATUS")[2].partition(".Sh EXAMPLES")[0]
+        self.assertIn("which is 127.", said)
+
     def test_standard_input_that_is_a_folder(self) -> None:
         path = self.file("a.dwg", drawn(3, 1))
         for name, words in ALL.items():
             # Who doesn't read it doesn't care.
             ran = in_bash(f'{name} "$@" < /tmp', *words(path))
             self.assertEqual((ran.returncode, ran.stdout), (0, tool(name, *words(path)).stdout), (name, ran.stderr))
-        for script, status in (("dwg-json", 4), ("dwg-picture", 4), ('dwg-diff - "$1"', 2), ("dwg-recover - -", 4), ("dwg-check -", 70)):
+        for script, status in (("dwg-json", 4), ("dwg-picture", 4), ('dwg-diff - "$1"', 2), ("dwg-recover - -", 4), ("dwg-info", 4), ("dwg-info --preview -", 4), ("dwg-check -", 70)):
             ran = in_bash(f"{script} < /tmp", path)
             # (a table may have begun before its first name is read)
             self.assertEqual((ran.returncode, ran.stdout.count(b"\n")), (status, int(script == "dwg-check -")), script)
@@ -446,7 +508,7 @@ class Ends(common.InFolder):
                 if left.exists():
                     left.unlink()
         self.assertGreater(statuses[130], 10)
-        for name in ("dwg-json", "dwg-diff", "dwg-check"):
+        for name in ("dwg-json", "dwg-diff", "dwg-check", "dwg-info"):
             for _ in range(10):
                 self.assertIn(self.end_of(name, ALL[name](self.file("b.dwg", data)), 0.1 * chance.random(), True), (0, 130))
 
@@ -474,6 +536,33 @@ class Ends(common.InFolder):
         hanging = program_that(self.folder, "hanging", [f'touch "{self.folder}/begun"; sleep 1', 'exec "$REAL" "$@"'])
         script = 'trap "" HUP; dwg-json --program "$2" "$1" & until [ -e "$3" ]; do sleep 0.02; done; kill -HUP $!; wait $!'
         self.assertEqual(in_bash(script, path, hanging, self.folder / "begun").returncode, 0)
+
+    def test_children_have_their_status_where_who_began_the_tool_ignores_their_end(self) -> None:
+        """The system keeps no status of a child then, and Python takes each for 0."""
+        ignored = lambda: signal.signal(signal.SIGCHLD, signal.SIG_IGN)
+        path = self.file("a.dwg", flipped(drawn(3, 1), 60))
+        words = {**ALL, "dwg-info": lambda source: ["--preview", "-", source]}
+        for name, of in words.items():
+            # (not every shell keeps it ignored for what it begins)
+            said = [sys.executable, "-B", str(TOOLS / name), "--program", made.PROGRAM, *map(str, of(path))]
+            usual, one = (subprocess.run(said, stdin=subprocess.DEVNULL, capture_output=True, check=False, preexec_fn=begin) for begin in (None, ignored))
+            self.assertNotEqual(one.returncode, 0, name)
+            self.assertEqual((one.returncode, one.stdout, one.stderr), (usual.returncode, usual.stdout, usual.stderr), name)
+
+    def test_the_index_of_git_stays_as_it_is(self) -> None:
+        (self.folder / "tools").mkdir()
+        shutil.copytree(TOOLS / "dwgtools", self.folder / "tools" / "dwgtools")
+        told = Path(shutil.copy(TOOLS / "dwg-info", self.folder / "tools"))
+        for words in (["init", "-q"], ["add", "."], ["-c", "user.name=t", "-c", "user.email=t@example.org", "commit", "-q", "-m", "all"]):
+            subprocess.run(["git", *words], cwd=self.folder, check=True, stdout=subprocess.DEVNULL)
+        os.utime(told, (1, 1))
+        index = self.folder / ".git" / "index"
+        before = index.stat().st_ino, index.stat().st_mtime_ns
+        said = subprocess.run([str(told), "--version"], capture_output=True, check=True).stdout.splitlines()[0]
+        self.assertRegex(said.decode(), "^dwg-info, commit [0-9a-f]{40}$")
+        self.assertEqual((index.stat().st_ino, index.stat().st_mtime_ns), before)
+        told.write_bytes(told.read_bytes() + b"\n")
+        self.assertEqual(subprocess.run([str(told), "--version"], capture_output=True, check=True).stdout.splitlines()[0], said + b" and changes")
 
     def test_nothing_turns_the_direction_of_a_terminal(self) -> None:
         letters = "\u202e\u2066\u200f\u061c\x1b\x9b"

@@ -22,15 +22,16 @@ OBJECT = "object {handle:X} POINT typed 27\n  owner 4.18\n  mode 2\n  colour {co
 
 # Has four workers, whatever processors there are, which do something for some objects.
 WORKING = """
-import os
-from dwgtools import fragments, json_lines, workers
+import os, time
+from dwgtools import fragments, json_lines, layouts, workers
 workers.processors = lambda: 4
-own, said = os.getpid(), fragments.Fragments.object
-def otherwise(own_fragments, part):
-    if {where}:
-        {line}
-    return said(own_fragments, part)
-fragments.Fragments.object = otherwise
+own, said = os.getpid(), layouts.Layouts.objects
+def otherwise(own_layouts, parts):
+    for part in parts:
+        if {where}:
+            {line}
+    return said(own_layouts, parts)
+layouts.Layouts.objects = otherwise
 """
 
 
@@ -58,7 +59,7 @@ class Workers(common.InFolder):
         self.assertEqual((alone.returncode, alone.stderr), (0, b""))
         written = self.out.read_bytes()
         self.assertEqual(written.count(b"\n"), COUNT + 1)
-        for where in ("False", "part.endswith('F 0000000000000000')"):
+        for where in ("False", "part.endswith(b'F 0000000000000000')"):
             ran = self.said(WORKING.format(where=where, line="raise fragments.Odd"), self.showing)
             self.assertEqual((ran.returncode, ran.stderr, self.out.read_bytes() == written), (0, b"", True), where)
 
@@ -82,11 +83,10 @@ class Workers(common.InFolder):
     def test_none_is_left(self) -> None:
         """Neither where the tool is interrupted while they work, nor where it is killed."""
         begun = self.folder / "begun"
-        lines = ['[ "$1" = show ] || exit 0', f'if [ -e "{self.folder}/once" ]; then head -c 1000000 "{self.text}"; touch "{begun}"; exec sleep 20; fi', f'touch "{self.folder}/once"', f'exec cat "{self.text}"']
-        endless = program_that(self.folder, "endless", lines)
-        code = test_limits.OTHERWISE.format(tests=str(TOOLS / "tests"), name="dwg-json", lines=WORKING.format(where="False", line="pass"))
+        pause = f"open({str(begun)!r}, 'w').close(); time.sleep(20)"
+        code = test_limits.OTHERWISE.format(tests=str(TOOLS / "tests"), name="dwg-json", lines=WORKING.format(where="part.startswith(b'3000 ')", line=pause))
         for number, status in ((signal.SIGINT, 130), (signal.SIGTERM, 143), (signal.SIGKILL, -signal.SIGKILL)):
-            words = [sys.executable, "-B", "-c", code, "--program", str(endless), str(self.path), "--output", str(self.out)]
+            words = [sys.executable, "-B", "-c", code, "--program", str(self.showing), str(self.path), "--output", str(self.out)]
             with subprocess.Popen(words, stdin=subprocess.DEVNULL, stderr=subprocess.PIPE, start_new_session=True) as started:
                 while not begun.exists():
                     time.sleep(0.02)
@@ -100,8 +100,7 @@ class Workers(common.InFolder):
                 while left_in(started.pid) and time.monotonic() < end:
                     time.sleep(0.02)
                 self.assertEqual((started.returncode, left_in(started.pid), self.out.exists()), (status, {}, False))
-            for name in ("once", "begun"):
-                (self.folder / name).unlink()
+            begun.unlink()
         left = [path.name for path in self.folder.iterdir() if path.name.endswith(".part")]
         # (one that is killed outright may leave its own)
         self.assertLessEqual(len(left), 1)

@@ -1,0 +1,115 @@
+"""The certificates of sound drawings, which stand in a folder beside LOG, each called by the SHA-256 of its drawing."""
+
+from __future__ import annotations
+
+import contextlib
+import errno
+import hashlib
+import os
+import threading
+from typing import Callable, Optional
+
+from .escapes import one_line
+from .inputs import bytes_of
+from .notes import Refusal, read_note
+from .outputs import mask_of_modes, write_whole
+from .program import Program, ProgramFailed
+from .rows import Row
+from .statuses import Exit, Status, ToolError
+from .verdicts import failed_with, open_regular
+from .versions import LIMIT
+
+# What the names of the folder and of a certificate end with.
+FOLDER, ENDING = ".certificates", ".cert"
+
+
+class Certificates:
+    """The folder of the certificates of LOG. Several threads may keep some at once."""
+
+    def __init__(self, log: str, tell_fault: Callable[[str], None]) -> None:
+        self.folder, self.fault = log + FOLDER, ""
+        self.name, self._tell = one_line(self.folder), tell_fault
+        self._lock = threading.Lock()
+        if os.path.lexists(self.folder) and not os.path.isdir(self.folder):
+            raise ToolError(f"{self.name} is there, and no folder", Exit.EXISTS)
+        mask_of_modes()
+
+    def path_of(self, digest: str) -> str:
+        """Where the certificate of a drawing is kept."""
+        return os.path.join(self.folder, digest + ENDING)
+
+    def has(self, row: Row) -> bool:
+        """Whether all is kept that belongs to what was found of a file: its SHA-256, and of a sound drawing its certificate."""
+        return row.sha256 is not None and (row.verdict != "sound" or os.path.isfile(self.path_of(row.sha256)))
+
+    def has_file(self, path: str) -> bool:
+        """Whether a file stands in the folder."""
+        above = os.path.dirname(path)
+        return above.endswith(FOLDER) and os.path.isdir(self.folder) and os.path.samefile(above, self.folder)
+
+    def read(self, digest: str) -> Optional[bytes]:
+        """The certificate of a drawing, no more of it than the program takes; None where none is kept."""
+        try:
+            with open_regular(self.path_of(digest)) as file:
+                return bytes_of(file, LIMIT + 1)
+        except FileNotFoundError:
+            return None
+
+    def kept(self, program: Program, row: Row) -> Row:
+        """The line of a sound drawing whose certificate is kept now, or why that has none. A certificate is made of the very bytes of which the line
+        has the SHA-256."""
+        assert row.sha256 is not None
+        try:
+            if not self.has(row):
+                with open_regular(row.path) as file:
+                    data = bytes_of(file, LIMIT + 1)
+                if hashlib.sha256(data).hexdigest() != row.sha256:
+                    raise ProgramFailed("changed while it was checked")
+                self._keep(row.sha256, certificate_of(program, data))
+            return row
+        except ProgramFailed as fault:
+            return Row(row.path, "failed", fault.why, bytes=row.bytes, version=row.version, mtime_ns=row.mtime_ns)
+        except OSError as fault:
+            return Row(row.path, "failed", str(fault.strerror), bytes=row.bytes, version=row.version, mtime_ns=row.mtime_ns)
+
+    def _keep(self, digest: str, certificate: bytes) -> None:
+        """Writes a certificate whole or not at all; where that fails it is told at once, and no other is written."""
+        with self._lock:
+            if self.fault:
+                return
+        try:
+            with contextlib.suppress(FileExistsError):
+                os.mkdir(self.folder)
+            # (of two files with one content the second finds it there)
+            with contextlib.suppress(FileExistsError):
+                write_whole(self.path_of(digest), certificate)
+            if not os.path.isfile(self.path_of(digest)):
+                raise FileExistsError(errno.EEXIST, f"{digest}{ENDING} is no regular file")
+        except OSError as fault:
+            with self._lock:
+                is_first, self.fault = not self.fault, str(fault.strerror)
+            if is_first:
+                self._tell(f"{self.name}: {fault.strerror}; no certificate is kept from now on")
+
+
+def certificate_of(program: Program, data: bytes) -> bytes:
+    """The certificate of a sound drawing."""
+    answer = program.run(["certify"], data)
+    if answer.status == Status.FOUND:
+        raise ProgramFailed("`certify` and `audit` don't agree")
+    if answer.status != Status.DONE:
+        raise failed_with(answer.status, "certify")
+    return answer.output
+
+
+def refusal_of(program: Program, certificate: bytes, data: bytes) -> str:
+    """Why `accept` doesn't accept a drawing by its certificate, or nothing; ProgramFailed where it says nothing of these."""
+    answer = program.run(["accept"], certificate + data)
+    if (answer.status, answer.output) == (Status.DONE, b"accept yes\n"):
+        return ""
+    if answer.status == Status.FOUND:
+        return "`accept` says no"
+    note = read_note(answer.notes.decode("utf-8", "replace").strip())
+    if answer.status == Status.REFUSED and isinstance(note, Refusal):
+        return f"`accept` refuses: {note}"
+    raise failed_with(answer.status, "accept")

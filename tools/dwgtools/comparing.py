@@ -1,0 +1,202 @@
+"""Files as they are, compared by content with what LOG has of them."""
+
+from __future__ import annotations
+
+import collections
+import errno
+import fcntl
+import hashlib
+import os
+from dataclasses import dataclass, replace
+from typing import IO, Any, Callable, Deque, Dict, Iterable, Iterator, List, Optional, Set, Tuple
+
+from .certificates import Certificates, refusal_of
+from .escapes import one_line
+from .inputs import bytes_of
+from .log import Contents, absolute_name, content_of, is_gone, open_log, read_row, refuse_file, take_lines
+from .program import Program, ProgramFailed
+from .rows import Row, as_object
+from .statuses import Exit, ToolError
+from .table import Form
+from .verdicts import Checker
+from .versions import LIMIT
+from .walking import Named
+
+# What a file is found to be beside what LOG has of it, and which of these are told by the status.
+STATES = ("same", "changed", "missing", "new", "moved", "not accepted", "unreadable", "failed")
+FAULTS = ("changed", "missing", "not accepted", "unreadable", "failed")
+
+
+@dataclass
+class Compared(Row):
+    """A file as it is, and what LOG has of it, under another name where it was moved; `is_new` where LOG has nothing of the name."""
+
+    kept: Optional[Row] = None
+    is_new: bool = False
+
+
+COLUMNS = ("path", "verdict", "detail", "bytes", "sha256")
+# What is told of a file, and of what LOG has of it.
+MEMBERS, MEMBERS_KEPT = ("path", "verdict", "detail", "bytes", "mtime_ns", "sha256"), ("path", "verdict", "bytes", "mtime_ns", "sha256")
+
+
+def as_compared(row: Row) -> Dict[str, Any]:
+    """A line as an object of JSON."""
+    kept = row.kept if isinstance(row, Compared) else None
+    had = as_object(kept) if kept else {}
+    return {**{name: getattr(row, name) for name in MEMBERS}, "kept": {name: had[name] for name in MEMBERS_KEPT} if kept else None}
+
+
+COMPARED = Form(COLUMNS, as_compared)
+
+
+class Kept(Contents):
+    """What LOG has of each file. LOG is only read."""
+
+    def __init__(self, path: str, tell_fault: Callable[[str], None]) -> None:
+        super().__init__()
+        self.name, self.is_link = one_line(path), os.path.islink(path)
+        try:
+            self._file = open_log(path, is_only_read=True)
+            self.place = os.fstat(self._file.fileno())
+            refuse_file(self._file, self.name, fcntl.LOCK_SH)
+            self._file.seek(0)
+            take_lines(self._file.readline, self._take, self.name, tell_fault)
+        except FileNotFoundError:
+            raise ToolError(f"{self.name} isn't there; without --verify it is made", Exit.NOTHING_FOUND) from None
+        except OSError as fault:
+            raise ToolError(f"{self.name}: {fault.strerror}", Exit.FAILURE) from None
+        if not self:
+            raise ToolError(f"{self.name} has no file", Exit.NOTHING_FOUND)
+
+    def _take(self, told: Dict[str, Any], _maker: object) -> None:
+        self.take(*read_row(told))
+
+    def named(self, absolute: str) -> Row:
+        """What LOG has of a file, by the name that the words had, where that leads there from here, and else by its whole name."""
+        row = self[absolute]
+        return row if absolute_name(row.path) == absolute else replace(row, path=absolute)
+
+
+class Missing:
+    """Names of LOG at which nothing is, by what they had. A new file that has the content of one is that file, moved."""
+
+    def __init__(self, kept: Iterable[Row]) -> None:
+        self._left: Dict[Tuple[Optional[str], Optional[int]], Deque[Row]] = {}
+        for row in kept:
+            self._left.setdefault(content_of(row), collections.deque()).append(row)
+        self._verdicts = {content: rows[0].verdict for content, rows in self._left.items()}
+
+    def verdict_of(self, row: Row) -> Optional[str]:
+        """The verdict of the content of a new file, where something missing had that."""
+        return self._verdicts.get(content_of(row))
+
+    def take(self, row: "Compared") -> None:
+        """Has a new file be a missing one, where one of its content is left; of two copies of a single one the second is new."""
+        left = self._left.get(content_of(row))
+        if left:
+            row.kept = left.popleft()
+            row.detail = "; ".join(filter(None, [f"{row.kept.path} -> {row.path}", row.detail]))
+        elif row.verdict in ("moved", "not accepted"):
+            row.verdict, row.detail = "new", self._verdicts[content_of(row)]
+
+    def rest(self) -> List[Row]:
+        """The lines of those that are nowhere, in order of name."""
+        rest = (kept for rows in self._left.values() for kept in rows)
+        return [Compared(kept.path, "missing", kept=kept) for kept in sorted(rest, key=lambda kept: os.fsencode(kept.path))]
+
+
+class Comparer(Checker):
+    """Compares files with what LOG has of them. Several threads may do so at once."""
+
+    def __init__(self, program: Program, kept: Kept, missing: Missing, certificates: Certificates) -> None:
+        super().__init__(program)
+        self._kept, self._missing, self._certificates = kept, missing, certificates
+
+    def compared(self, one: Named) -> Row:
+        """The line of a file: whatever happens to it, there is one."""
+        kept = self._kept.get(absolute_name(one.path))
+        found = Row(one.path, "unreadable", one.fault) if one.fault is not None else self.check(one.path)
+        row = found if isinstance(found, Compared) else Compared(**vars(found), kept=kept, is_new=kept is None)
+        if row.verdict == "unreadable" and kept is not None and is_gone(one.path):
+            row.verdict, row.detail = "missing", ""
+        return row
+
+    def checked(self, file: IO[bytes], row: Row) -> Row:
+        told, kept = os.fstat(file.fileno()), self._kept.get(absolute_name(row.path))
+        line = Compared(row.path, "new", bytes=told.st_size, mtime_ns=told.st_mtime_ns, kept=kept, is_new=kept is None)
+        line.sha256 = self.digest(file, told.st_size)
+        had = self._missing.verdict_of(line) if kept is None else kept.verdict
+        if kept is not None and content_of(line) != content_of(kept):
+            line.verdict, line.detail = "changed", change_of(line, kept)
+        elif had is not None:
+            line.verdict = "moved" if kept is None else "same"
+            self.see_accepted(file, line, had)
+        else:
+            line.detail = self.verdict_of_new(file, line)
+        after = os.fstat(file.fileno())
+        if (after.st_size, after.st_mtime_ns) != (told.st_size, told.st_mtime_ns):
+            raise ProgramFailed("changed while it was read")
+        return line
+
+    def verdict_of_new(self, file: IO[bytes], line: Compared) -> str:
+        """What is said of a file that nobody has looked at yet: its verdict, and the detail. (One of which there is none is new all the same.)"""
+        row = Row(line.path, bytes=line.bytes, mtime_ns=line.mtime_ns)
+        fault = self.fault_of_judging(file, row)
+        verdict, detail = ("failed", fault.why) if fault else (row.verdict, row.detail)
+        return f"{verdict}: {detail}" if detail else verdict
+
+    def see_accepted(self, file: IO[bytes], line: Compared, had: str) -> None:
+        """Has a drawing that was sound be accepted by its certificate too. The very bytes that are given to `accept` have the SHA-256."""
+        if had != "sound" or line.sha256 is None:
+            return
+        try:
+            certificate = self._certificates.read(line.sha256)
+        except OSError as fault:
+            if fault.errno in (errno.EMFILE, errno.ENFILE, errno.ENOMEM):
+                raise
+            line.verdict, line.detail = "not accepted", f"its certificate can't be read: {fault.strerror}"
+            return
+        data = bytes_of(file, LIMIT + 1)
+        if hashlib.sha256(data).hexdigest() != line.sha256:
+            raise ProgramFailed("changed while it was read")
+        if certificate is None:
+            line.verdict, line.detail = "not accepted", "it has no certificate"
+        elif len(certificate) > LIMIT:
+            line.verdict, line.detail = "not accepted", f"its certificate has more than {LIMIT} bytes"
+        elif len(certificate) + len(data) > LIMIT:
+            line.detail = f"`accept` takes no more than {LIMIT} bytes of certificate and drawing"
+        else:
+            why = refusal_of(self.program, certificate, data)
+            line.verdict, line.detail = ("not accepted", why) if why else (line.verdict, "")
+
+
+def change_of(line: Row, kept: Row) -> str:
+    """By what a file of another content differs otherwise: what has the size and time that it had was changed by no program that tells it."""
+    if line.bytes != kept.bytes:
+        return f"it had {kept.bytes} bytes"
+    return "of the same size and time" if line.mtime_ns == kept.mtime_ns else "of the same size"
+
+
+def planned(found: Iterable[Named], kept: Kept) -> Tuple[List[Named], List[Row]]:
+    """The files to compare: those that are found, each once, and those that LOG has elsewhere; and what LOG has of names at which nothing is."""
+    plan: List[Named] = []
+    seen: Set[str] = set()
+    for one in found:
+        name = absolute_name(one.path)
+        # (a word may name a file that is missing)
+        if name not in seen and not (name in kept and is_gone(one.path)):
+            seen.add(name)
+            plan.append(one)
+    rest = sorted(kept.keys() - seen, key=os.fsencode)
+    gone = set(filter(is_gone, rest))
+    return [*plan, *(Named(kept.named(name).path) for name in rest if name not in gone)], [kept.named(name) for name in rest if name in gone]
+
+
+def compared_rows(rows: Iterable[Row], missing: Missing) -> Iterator[Row]:
+    """The lines of files as they come, each new one known again that is a missing one; at last those that are nowhere."""
+    for row in rows:
+        if isinstance(row, Compared) and row.is_new:
+            missing.take(row)
+        yield row
+    yield from missing.rest()

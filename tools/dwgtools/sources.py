@@ -1,0 +1,79 @@
+"""The drawings that the words of dwg-info name, and those in folders, of which those that can't be told are counted."""
+
+from __future__ import annotations
+
+import os
+from dataclasses import dataclass
+from typing import IO, Iterable, Iterator, Optional, Sequence, Set, Tuple
+
+from .drawings import Drawing
+from .program import Program
+from .statuses import Status, ToolError
+from .streams import input_name, is_standard
+from .verdicts import open_regular
+from .walking import Named, Walk, walked, without_new
+
+
+@dataclass(frozen=True)
+class Source(Named):
+    """A drawing that a word names, or one of a folder; or a folder that can't be read, and why."""
+
+    is_named: bool = True
+
+
+def sources_of(words: Iterable[str], walk: Walk, new: Sequence[os.stat_result]) -> Iterator[Source]:
+    """What the words name, in their order, and of folders what the walk takes, without new files that the output or messages go to."""
+    seen: Set[Tuple[int, int]] = set()
+    for word in words:
+        if is_standard(word) or not os.path.isdir(word):
+            yield Source(word)
+            continue
+        for one in without_new(walked(word, walk, seen), new):
+            yield Source(one.path, one.fault, is_named=one.fault is not None and one.path == word)
+
+
+def drawing_of(source: Source, program: Program, page: Optional[str]) -> Drawing:
+    """The drawing of a source; ToolError where it can't be read."""
+    if source.fault is not None:
+        raise ToolError(f"{input_name(source.path)}: {source.fault}", Status.READ_FAULT)
+    return Drawing(program, source.path, None if source.is_named else regular(source.path), page)
+
+
+def regular(path: str) -> IO[bytes]:
+    """A file of a folder, and nothing that isn't one: nobody named a pipe there, which would hold up all after it."""
+    try:
+        return open_regular(path)
+    except OSError as fault:
+        raise ToolError(f"{input_name(path)}: {fault.strerror}", Status.READ_FAULT) from None
+
+
+# The statuses of what is left out of folders: what is no whole drawing that the program reads, can't be read, or is too large.
+LEFT_OUT = (Status.REFUSED, Status.READ_FAULT, Status.TOO_LONG)
+
+
+@dataclass
+class Count:
+    """How many drawings were told, and lines of them; the status of the first that is told on standard error, 0 where none is; of folders how many
+    files there were, how many were left out, and the status of the first of these."""
+
+    drawings: int = 0
+    lines: int = 0
+    status: int = 0
+    found: int = 0
+    left_out: int = 0
+    status_left_out: int = 0
+
+    def leaves_out(self, source: Source, status: int) -> bool:
+        """Whether a source that can't be told is only counted."""
+        if source.is_named or status not in LEFT_OUT:
+            self.status = self.status or status
+            return False
+        self.left_out += 1
+        self.status_left_out = self.status_left_out or status
+        return True
+
+    def said(self) -> str:
+        """What is said of all that was left out; nothing where all was told."""
+        if not self.left_out:
+            return ""
+        return f"{self.left_out} of {self.found} files in folders {'are' if self.left_out > 1 else 'is'} left out; dwg-check says why"
