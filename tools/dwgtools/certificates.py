@@ -16,23 +16,35 @@ from .outputs import mask_of_modes, write_whole
 from .program import Program, ProgramFailed
 from .rows import Row
 from .statuses import Exit, Status, ToolError
+from .streams import ENDING, FOLDER
 from .verdicts import failed_with, open_regular
 from .versions import LIMIT
 
-# What the names of the folder and of a certificate end with.
-FOLDER, ENDING = ".certificates", ".cert"
+
+def folder_of(log: str) -> str:
+    """The folder of the certificates of LOG."""
+    return log + FOLDER
 
 
 class Certificates:
     """The folder of the certificates of LOG. Several threads may keep some at once."""
 
     def __init__(self, log: str, tell_fault: Callable[[str], None]) -> None:
-        self.folder, self.fault = log + FOLDER, ""
+        self.folder, self.fault = folder_of(log), ""
         self.name, self._tell = one_line(self.folder), tell_fault
         self._lock = threading.Lock()
         if os.path.lexists(self.folder) and not os.path.isdir(self.folder):
             raise ToolError(f"{self.name} is there, and no folder", Exit.EXISTS)
         mask_of_modes()
+        # (of a folder that is open its number is no other's)
+        self._handle = self._opened() if os.path.isdir(self.folder) else -1
+
+    def _opened(self) -> int:
+        """The folder, which is there; -1 where it can't be opened."""
+        try:
+            return os.open(self.folder, os.O_RDONLY | os.O_DIRECTORY | os.O_CLOEXEC)
+        except OSError:
+            return -1
 
     def path_of(self, digest: str) -> str:
         """Where the certificate of a drawing is kept."""
@@ -78,18 +90,45 @@ class Certificates:
             if self.fault:
                 return
         try:
-            with contextlib.suppress(FileExistsError):
-                os.mkdir(self.folder)
+            with self._lock:
+                # (one that was there, and was removed, isn't made again)
+                if self._handle < 0:
+                    with contextlib.suppress(FileExistsError):
+                        os.mkdir(self.folder)
+                    self._handle = self._opened()
             # (of two files with one content the second finds it there)
             with contextlib.suppress(FileExistsError):
                 write_whole(self.path_of(digest), certificate)
-            if not os.path.isfile(self.path_of(digest)):
-                raise FileExistsError(errno.EEXIST, f"{digest}{ENDING} is no regular file")
+            self._refuse_other(digest, certificate)
         except OSError as fault:
-            with self._lock:
-                is_first, self.fault = not self.fault, str(fault.strerror)
-            if is_first:
-                self._tell(f"{self.name}: {fault.strerror}; no certificate is kept from now on")
+            self._fail(f"{fault.strerror}; no certificate is kept from now on")
+
+    def _refuse_other(self, digest: str, certificate: bytes) -> None:
+        """Refuses what stands at the name of a certificate, and isn't that."""
+        if not os.path.isfile(self.path_of(digest)):
+            raise FileExistsError(errno.EEXIST, f"{digest}{ENDING} is no regular file")
+        if self.read(digest) != certificate:
+            raise FileExistsError(errno.EEXIST, f"{digest}{ENDING} is another file")
+
+    def _fail(self, why: str) -> None:
+        """Tells the first fault."""
+        with self._lock:
+            is_first, self.fault = not self.fault, self.fault or why
+        if is_first:
+            self._tell(f"{self.name}: {why}")
+
+    def close(self) -> None:
+        """Sees that the folder that was there, or was made, is the one of its name at the end."""
+        if self._handle < 0:
+            return
+        try:
+            is_there = os.path.samestat(os.stat(self.folder), os.fstat(self._handle))
+        except OSError:
+            is_there = False
+        if not is_there:
+            self._fail("it was removed or replaced meanwhile; certificates that were in it are lost")
+        os.close(self._handle)
+        self._handle = -1
 
 
 def certificate_of(program: Program, data: bytes) -> bytes:

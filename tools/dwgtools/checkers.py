@@ -37,6 +37,10 @@ class Elsewhere(Exception):
     """A file is checked in the tool itself."""
 
 
+class NoRoom(Elsewhere):
+    """There is no room for another process."""
+
+
 class Spawned:
     """A run that has begun, and its end."""
 
@@ -117,7 +121,7 @@ class Quick(Program):
         except OSError as fault:
             if fault.errno == errno.EAGAIN:
                 # (the tool itself knows how long to wait for room)
-                raise Elsewhere from None
+                raise NoRoom from None
             raise ProgramFailed(str(fault.strerror)) from None
 
 
@@ -167,6 +171,9 @@ class Work:
                 self._checker = self._begun()
                 return b""
             return pickle.dumps(self._checker.check(os.fsdecode(path)))
+        except NoRoom:
+            # This process ends as one that has no memory, and makes room.
+            raise MemoryError from None
         except Exception:  # pylint: disable=broad-except
             return b""
 

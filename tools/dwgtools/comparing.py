@@ -13,7 +13,7 @@ from typing import IO, Any, Callable, Deque, Dict, Iterable, Iterator, List, Opt
 from .certificates import Certificates, refusal_of
 from .escapes import one_line
 from .inputs import bytes_of
-from .log import Contents, absolute_name, content_of, is_gone, open_log, read_row, refuse_file, take_lines
+from .log import Contents, Places, content_of, is_gone, open_log, read_row, refuse_file, take_lines
 from .program import Program, ProgramFailed
 from .rows import Row, as_object
 from .statuses import Exit, ToolError
@@ -68,14 +68,19 @@ class Kept(Contents):
             raise ToolError(f"{self.name}: {fault.strerror}", Exit.FAILURE) from None
         if not self:
             raise ToolError(f"{self.name} has no file", Exit.NOTHING_FOUND)
+        self._places = Places(self.keys())
 
     def _take(self, told: Dict[str, Any], _maker: object) -> None:
         self.take(*read_row(told))
 
+    def name_of(self, path: str) -> str:
+        """The name under which LOG has a file, or would have it."""
+        return self._places.name_of(path)
+
     def named(self, absolute: str) -> Row:
         """What LOG has of a file, by the name that the words had, where that leads there from here, and else by its whole name."""
         row = self[absolute]
-        return row if absolute_name(row.path) == absolute else replace(row, path=absolute)
+        return row if self.name_of(row.path) == absolute else replace(row, path=absolute)
 
 
 class Missing:
@@ -115,7 +120,7 @@ class Comparer(Checker):
 
     def compared(self, one: Named) -> Row:
         """The line of a file: whatever happens to it, there is one."""
-        kept = self._kept.get(absolute_name(one.path))
+        kept = self._kept.get(self._kept.name_of(one.path))
         found = Row(one.path, "unreadable", one.fault) if one.fault is not None else self.check(one.path)
         row = found if isinstance(found, Compared) else Compared(**vars(found), kept=kept, is_new=kept is None)
         if row.verdict == "unreadable" and kept is not None and is_gone(one.path):
@@ -123,7 +128,7 @@ class Comparer(Checker):
         return row
 
     def checked(self, file: IO[bytes], row: Row) -> Row:
-        told, kept = os.fstat(file.fileno()), self._kept.get(absolute_name(row.path))
+        told, kept = os.fstat(file.fileno()), self._kept.get(self._kept.name_of(row.path))
         line = Compared(row.path, "new", bytes=told.st_size, mtime_ns=told.st_mtime_ns, kept=kept, is_new=kept is None)
         line.sha256 = self.digest(file, told.st_size)
         had = self._missing.verdict_of(line) if kept is None else kept.verdict
@@ -183,7 +188,7 @@ def planned(found: Iterable[Named], kept: Kept) -> Tuple[List[Named], List[Row]]
     plan: List[Named] = []
     seen: Set[str] = set()
     for one in found:
-        name = absolute_name(one.path)
+        name = kept.name_of(one.path)
         # (a word may name a file that is missing)
         if name not in seen and not (name in kept and is_gone(one.path)):
             seen.add(name)

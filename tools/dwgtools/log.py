@@ -13,7 +13,7 @@ import re
 import stat
 import threading
 from dataclasses import asdict, dataclass, replace
-from typing import IO, Any, Callable, Dict, Iterable, Iterator, List, Optional, Set, Tuple
+from typing import IO, Any, Callable, Collection, Dict, Iterable, Iterator, List, Optional, Set, Tuple
 
 from .arguments import commit
 from .escapes import one_line
@@ -71,6 +71,15 @@ def absolute_name(path: str) -> str:
         return path
 
 
+def spelled_name(path: str) -> str:
+    """The whole name of a file as it is spelled: links in it aren't gone through, but for those before the last `..`, which leads up from there."""
+    parts = [part for part in path.split(os.sep) if part not in ("", os.curdir)]
+    ups = [index for index, part in enumerate(parts) if part == os.pardir]
+    begin = os.sep if path.startswith(os.sep) else os.curdir
+    cut = ups[-1] + 1 if ups else 0
+    return os.path.join(absolute_name(os.path.join(begin, *parts[:cut])), *parts[cut:])
+
+
 def is_gone(path: str) -> bool:
     """Whether nothing has a name, as the system says; one of which it says nothing isn't gone."""
     try:
@@ -82,12 +91,44 @@ def is_gone(path: str) -> bool:
     return False
 
 
+class Places:
+    """Where the folders of the names of LOG are now, by which a file is known again: a folder may have become a link since LOG has it."""
+
+    def __init__(self, names: Collection[str]) -> None:
+        self._names = names
+        self._led: Dict[str, str] = {}
+        # (many files stand in one folder)
+        folders: Dict[str, str] = {}
+        for name in names:
+            folder, last = os.path.split(name)
+            if folder not in folders:
+                folders[folder] = absolute_name(folder)
+            if folders[folder] != folder:
+                self._led.setdefault(os.path.join(folders[folder], last), name)
+
+    def name_of(self, path: str) -> str:
+        """The name that LOG has for a file: as it is spelled, whatever stands there now, else by its folder, and else its whole name."""
+        spelled = spelled_name(path)
+        if spelled in self._names:
+            return spelled
+        name, (folder, last) = absolute_name(path), os.path.split(spelled)
+        for place in (os.path.join(absolute_name(folder), last), name):
+            if place in self._names or place in self._led:
+                return place if place in self._names else self._led[place]
+        return name
+
+
+@dataclass
+class Forgotten(Row):
+    """A file that LOG was told to have no more. One that was gone only, as older tools wrote, it still has."""
+
+
 class Contents(Dict[str, Row]):
     """What LOG has of the content of each file, by its whole name: the last one that it wasn't found to have changed to by itself."""
 
     def take(self, absolute: str, row: Row) -> None:
         """Takes a line of LOG."""
-        if row.verdict == "unreadable" and row.detail == GONE:
+        if isinstance(row, Forgotten):
             self.pop(absolute, None)
         elif row.sha256 is not None and row.bytes is not None and row.verdict != "changed":
             self[absolute] = row
@@ -177,10 +218,20 @@ def is_possible(verdict: str, numbers: Dict[str, Optional[int]]) -> bool:
     return trailing > 0 if verdict == "trailing bytes" else not trailing and (findings > 0) == (verdict == "unsound")
 
 
+def is_name(text: str) -> bool:
+    """Whether a file can have a name: one without NUL, and of bytes."""
+    try:
+        return b"\0" not in os.fsencode(text)
+    except ValueError:
+        return False
+
+
 def read_row(told: Dict[str, Any]) -> Tuple[str, Row]:
     """The file of a line of LOG by its whole name, and what was found of it."""
     digest = told.get("sha256")
     if not all(isinstance(told.get(name), str) for name in TEXTS) or told["verdict"] not in VERDICTS or not VERSION_TOLD.fullmatch(told["version"]):
+        raise NoLine
+    if not is_name(told["path"]) or not is_name(told["absolute"]):
         raise NoLine
     if not (digest is None or isinstance(digest, str) and DIGEST.fullmatch(digest)):
         raise NoLine
@@ -192,7 +243,8 @@ def read_row(told: Dict[str, Any]) -> Tuple[str, Row]:
     row = Row(told["path"], told["verdict"], told["detail"], version=told["version"], refusal=read_refusal(told.get("refusal")), sha256=digest, **numbers)
     row.preview = read_preview(told.get("preview"))
     row.lasting = row.verdict == "failed"
-    return told["absolute"], row
+    is_forgotten = told.get("forgotten") is True and row.verdict == "unreadable" and row.detail == GONE
+    return told["absolute"], Forgotten(**vars(row)) if is_forgotten else row
 
 
 def state_of_log(file: IO[bytes]) -> Tuple[int, int, int]:
@@ -263,10 +315,15 @@ class Log:
         self._known: Dict[Key, Row] = {}
         self._first: Dict[Key, str] = {}
         self._current: Set[Key] = set()
+        # The size and time of the last line of each name, which is what --verify compares with.
+        self._latest: Dict[str, Key] = {}
+        self._keys: Dict[str, List[Key]] = {}
         self._contents: Dict[str, Row] = {}
         self._unreadable: Set[Tuple[str, str]] = set()
         # What LOG had when the run began; what was found under names that it didn't have, and which of its own weren't there, though they were named.
         self._before = Contents()
+        self._names: Set[str] = set()
+        self._places = Places(self._names)
         self._new: List[Row] = []
         self._missed: List[str] = []
         self._lock = threading.Lock()
@@ -292,6 +349,7 @@ class Log:
         self._file.seek(0)
         last, is_ended = take_lines(seen.readline, lambda told, maker: self.take_line(told, maker == own), self.name, self._tell)
         self._seen = seen
+        self._places = Places(self._names)
         try:
             if not is_ended:
                 self._append(b"\n")
@@ -307,13 +365,21 @@ class Log:
     def _take(self, absolute: str, row: Row, is_current: bool) -> None:
         """Knows a file again; what it is found to be counts only where this program found it, by these rules."""
         self._before.take(absolute, row)
+        self._names.add(absolute)
+        if isinstance(row, Forgotten):
+            for key in self._keys.pop(absolute, ()):
+                del self._known[key]
+                self._first.pop(key, None)
+                self._current.discard(key)
         if row.verdict == "unreadable":
             self._unreadable.add((absolute, row.detail))
         elif row.bytes is not None and row.mtime_ns is not None:
             key = (absolute, row.bytes, row.mtime_ns)
             # (one that was gone is there again)
             self._unreadable.discard((absolute, GONE))
-            self._known[key] = row
+            if key not in self._known:
+                self._keys.setdefault(absolute, []).append(key)
+            self._known[key], self._latest[absolute] = row, key
             if row.sha256 and row.verdict != "changed":
                 self._first.setdefault(key, row.sha256)
             self._current.discard(key)
@@ -330,12 +396,19 @@ class Log:
         """What this program found of a file that has the size and the time that it had."""
         try:
             told = os.stat(path)
-            key = (absolute_name(path), told.st_size, told.st_mtime_ns)
+            key = (self._places.name_of(path), told.st_size, told.st_mtime_ns)
         except (OSError, ValueError):
             return None
-        row = self._known[key] if key in self._current and (key[0], GONE) not in self._unreadable else None
+        known = self._known[key] if key in self._current and (key[0], GONE) not in self._unreadable else None
         # One that was changed is looked at again: it may have been put right.
-        return replace(row, path=path) if row and row.verdict != "changed" else None
+        if known is None or known.verdict == "changed":
+            return None
+        row = replace(known, path=path)
+        if self._latest[key[0]] != key:
+            # (it was another meanwhile, which LOG would have of it)
+            self.add_line(key[0], row)
+            self._latest[key[0]] = key
+        return row
 
     def moved(self) -> List[str]:
         """The whole names of files that aren't there any more, of each of which the content was found under a new name."""
@@ -349,22 +422,22 @@ class Log:
 
     def gone(self, words: Iterable[str]) -> List[str]:
         """The whole names of files that aren't there any more, which the words named or which stand below these, in their order."""
-        tops = {*map(absolute_name, words), *self._missed}
+        tops = {name for word in words for name in (absolute_name(word), spelled_name(word))} | {*self._missed}
         # (many files stand in one folder)
-        folders = {folder for folder in {os.path.dirname(name) for name in self._before} if is_among(folder, tops)}
+        folders = {folder for folder in {os.path.dirname(name) for name in self._before} if is_among(folder, tops) or is_among(absolute_name(folder), tops)}
         return sorted(name for name in self._before if (name in tops or os.path.dirname(name) in folders) and is_gone(name))
 
     def forget(self, names: Iterable[str]) -> None:
         """Has LOG have files no more."""
         for name in names:
             del self._before[name]
-            self.add_line(name, Row(name, "unreadable", GONE))
+            self.add_line(name, Forgotten(name, "unreadable", GONE))
 
     def kept(self, row: Row) -> Row:
         """The line of a file that was looked at, kept in LOG: `changed` where its first content of this size and time was another."""
         if row.verdict == "failed" and not row.lasting:
             return row
-        absolute = absolute_name(row.path)
+        absolute = self._places.name_of(row.path)
         if absolute not in self._before:
             self._new.append(row)
         elif row.verdict == "unreadable" and row.detail == GONE:
@@ -377,13 +450,20 @@ class Log:
         if old and row.sha256 and row.sha256 != first:
             row = replace(row, verdict="changed", detail=f"{row.verdict}: {row.detail}" if row.detail else row.verdict)
         is_there = key in self._current and old is not None and old.sha256 == row.sha256 and (absolute, GONE) not in self._unreadable
+        is_there = is_there and self._latest[absolute] == key
         if not is_there and not (row.verdict == "unreadable" and (absolute, row.detail) in self._unreadable):
             self.add_line(absolute, row)
+            if row.bytes is not None:
+                self._latest[absolute] = key
         return row
 
     def add_line(self, absolute: str, row: Row) -> None:
         """Adds a line; where that fails it is told at once, and nothing more is added."""
-        line = json.dumps({**as_object(row), "absolute": absolute}).encode("ascii") + b"\n"
+        # (what no file can be called would be a damaged line)
+        if not is_name(row.path):
+            return
+        more = {"forgotten": True} if isinstance(row, Forgotten) else {}
+        line = json.dumps({**as_object(row), "absolute": absolute, **more}).encode("ascii") + b"\n"
         if len(line) > LONGEST:
             self._tell(f"{self.name}: a line of more than {LONGEST} bytes isn't kept, that of {one_line(row.path)}")
             return

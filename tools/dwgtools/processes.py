@@ -27,6 +27,11 @@ Running = Union["subprocess.Popen[bytes]", Session]
 sessions_now: Set[Session] = set()
 
 
+def is_any_running() -> bool:
+    """Whether any session runs of which the end isn't known."""
+    return bool(running_now) or any(one.returncode is None for one in set(sessions_now))
+
+
 def all_running() -> List[Running]:
     """All sessions that have begun."""
     return [*running_now, *sessions_now]

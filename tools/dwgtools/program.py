@@ -19,7 +19,7 @@ from . import TOP
 from .escapes import one_line
 from .notes import MOST_NOTES, Said, read_note
 from .pipes import LOOK, Pipes, await_end, buffered
-from .processes import computed_alone, computed_by, end_running, running_now, send_to_all
+from .processes import computed_alone, computed_by, end_running, is_any_running, running_now, send_to_all
 from .signals import await_interrupt, uninterrupted
 from .statuses import Exit, Status, ToolError
 from .streams import hush_where_named
@@ -226,7 +226,7 @@ class Program:
                         running_now.add(ran)
                     return ran
                 except OSError as fault:
-                    if fault.errno != errno.EAGAIN or not running_now or time.monotonic() > end:
+                    if fault.errno != errno.EAGAIN or not is_any_running() or time.monotonic() > end:
                         raise ProgramFailed(str(fault.strerror)) from None
             time.sleep(0.02)
 

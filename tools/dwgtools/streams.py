@@ -89,6 +89,11 @@ def is_one_file(one: Optional[os.stat_result], other: Optional[os.stat_result]) 
     return one is not None and other is not None and stat.S_ISREG(one.st_mode) and os.path.samestat(one, other)
 
 
+def is_one_pipe(one: Optional[os.stat_result], other: Optional[os.stat_result]) -> bool:
+    """Whether two are one pipe, whatever their names."""
+    return one is not None and other is not None and stat.S_ISFIFO(one.st_mode) and os.path.samestat(one, other)
+
+
 def _stream_file(stream: int) -> Optional[os.stat_result]:
     """The regular file that a standard stream is; None where it is none."""
     there = status_at(None, stream)
@@ -103,7 +108,7 @@ def outputs(is_new: bool) -> List[os.stat_result]:
 def refuse_streams(sources: Sequence[Optional[str]], named: Sequence[str] = ()) -> None:
     """Refuses a file to read, or an output that is named, that is standard output or error too, before anything is written there.
 
-    Where it is standard error the refusal isn't said, since it would stand in the file: the status alone tells. That is looked at first.
+    Where it is a file and standard error the refusal isn't said, since it would stand in it: the status alone tells. That is looked at first.
     """
     for stream, called in ((2, "error"), (1, "output")):
         own = _stream_file(stream)
@@ -114,6 +119,26 @@ def refuse_streams(sources: Sequence[Optional[str]], named: Sequence[str] = ()) 
                 # (what is said into a file that is replaced would be lost with it)
                 why = "nothing is written into what is read" if name in sources else "name another output"
                 raise ToolError(f"{input_name(name)} is standard {called} too; {why}", Exit.EXISTS)
+    refuse_pipes(sources)
+
+
+def refuse_pipes(sources: Sequence[Optional[str]]) -> None:
+    """Refuses a pipe to read that is standard output or error too, of which a tool that reads what it writes would never see the end."""
+    pipes = [(status_at(None, stream), called) for stream, called in ((1, "output"), (2, "error"))]
+    pipes = [(own, called) for own, called in pipes if own is not None and stat.S_ISFIFO(own.st_mode)]
+    for name in sources if pipes else ():
+        there = status_at(name, 0)
+        for own, called in pipes:
+            if is_one_pipe(own, there):
+                raise ToolError(f"{input_name(name)} is standard {called} too, and no pipe is read that is written into", Exit.EXISTS)
+
+
+def refuse_streams_in(folder: str) -> None:
+    """Refuses a file of a folder that is standard output or error too, before anything is written there. Where neither is a file, none is looked at."""
+    own = [one for one in map(_stream_file, (1, 2)) if one is not None]
+    with contextlib.suppress(OSError):
+        paths = [entry.path for entry in os.scandir(folder)] if own else []
+        refuse_streams([path for path in paths if any(is_one_file(one, status_at(path, 0)) for one in own)])
 
 
 def _hush() -> None:
@@ -141,15 +166,20 @@ def hush_where_drawing() -> None:
             sys.stderr = open(os.devnull, "w", encoding="utf-8", errors="backslashreplace")
 
 
+# What the names of the folder of the certificates of LOG and of a certificate end with.
+FOLDER, ENDING = ".certificates", ".cert"
+
+
 def hush_where_named(words: Sequence[str]) -> None:
-    """Says nothing more where standard error is a file that the words or DWG may name, or a drawing in a folder that they name."""
+    """Says nothing more where standard error is a file that the words or DWG may name, a drawing in a folder that they name, or a certificate of LOG."""
     own, path = _stream_file(2), os.path.realpath("/dev/fd/2")
     if own is None:
         return
     names = [as_file(name) for word in (*words, os.environ.get("DWG", "")) for name in _names_in(word)]
     folders = (os.path.join(os.path.realpath(name), "") for name in names if os.path.isdir(name))
     is_inside = path.lower().endswith(".dwg") and path.startswith(tuple(folders))
-    if is_inside or any(is_one_file(own, status_at(name, 0)) for name in (None, *names)):
+    is_certificate = path.endswith(ENDING) and os.path.dirname(path) in (os.path.realpath(name + FOLDER) for name in names)
+    if is_inside or is_certificate or any(is_one_file(own, status_at(name, 0)) for name in (None, *names)):
         _hush()
 
 

@@ -7,7 +7,7 @@ from dataclasses import dataclass, fields
 from typing import Any, Callable, Dict, List, Optional, Set, Tuple
 
 from .escapes import one_line
-from .log import DIGEST, Log, NoLine, absolute_name, is_number
+from .log import DIGEST, Log, NoLine, absolute_name, is_name, is_number
 from .notes import LOSSES
 from .rows import Row
 from .statuses import Exit, ToolError
@@ -30,7 +30,7 @@ def read_made(told: Any) -> Optional[Made]:
         return None
     if not isinstance(told, dict) or not isinstance(told.get("output"), str) or not isinstance(told.get("parts"), dict):
         raise NoLine
-    if not all(told.get(name) is None or is_number(told[name]) for name in NUMBERS):
+    if not is_name(told["output"]) or not all(told.get(name) is None or is_number(told[name]) for name in NUMBERS):
         raise NoLine
     digests = [told.get("sha256"), *([] if told.get("notes") is None else [told["notes"]])]
     if not all(isinstance(one, str) and DIGEST.fullmatch(one) for one in digests):

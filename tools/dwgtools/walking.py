@@ -13,7 +13,7 @@ from dataclasses import dataclass
 from typing import IO, Deque, Iterable, Iterator, List, Optional, Sequence, Set, Tuple, Union
 
 from .statuses import Exit, ToolError
-from .streams import as_file, is_one_file, outputs, refuse_streams
+from .streams import as_file, is_one_file, outputs, refuse_pipes, refuse_streams
 
 
 @dataclass(frozen=True)
@@ -284,7 +284,9 @@ def files_of(options: argparse.Namespace) -> Union[Coming, List[Named]]:
     # (LOG and a file may be called by a hyphen, which isn't standard input then)
     streams = [*([] if options.log is None else [as_file(options.log)]), *(word for word in options.files if word == "-")]
     if can_come(options):
+        # (of what is read by name no pipe is read)
         refuse_streams(streams)
+        refuse_pipes(options.files)
         return Coming(found)
     named = list(held(found) if "-" in options.files else found)
     refuse_streams([*streams, *(as_file(one.path) for one in named)])

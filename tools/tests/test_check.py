@@ -823,7 +823,7 @@ class Check(Base):
 
     def test_a_name_that_no_file_has_never_ends_a_run(self) -> None:
         (path,) = self.some(["a.dwg"])
-        for log in ([], ["--resume", self.folder / "log"]):
+        for log in ([], *[["--resume", self.folder / "log"]] * 2):
             ran = tool("dwg-check", "-", "--quiet", *log, given=b"x\0y\n" + b"n" * 5000 + b"\n" + os.fsencode(path) + b"\n")
             self.assertEqual(([row[1] for row in read_table(ran.stdout)], ran.stderr), (["unreadable", "unreadable", "sound"], b""))
 
@@ -1151,9 +1151,10 @@ class Logs(Base):
         wrong += [{"verdict": "trailing bytes", "trailing": row["bytes"]}, {"version": "AC15"}, {"sha256": "0"}, {"sha256": row["sha256"].upper() + "A"}]
         wrong += [{"refusal": {"part": "objects", "index": index, "place": place, "reason": "check"}} for index, place in ((-1, 2), (1, -2), (True, 2))]
         wrong += [{"preview": {"bytes": 9, "pictures": [{"code": code, "bytes": size}]}} for code, size in ((-1, 1), (256, 1), (2, -1), (2, True))]
+        wrong += [{name: value} for name in ("path", "absolute") for value in ("\0", "/a\0", "/\ud800", "/\udc7f", "/\udd80")]
         damaged = [json.dumps({**row, **more}).encode() + b"\n" for more in wrong]
         damaged += [b"[" * 200_000 + b"\n", b'{"bytes":' * 20_000 + b"\n", b"9" * 100_000 + b"\n", b"x" * 1_000_000 + b"\n", b"\xff\0\n", b"\n", b"null\n", b"[]\n", one[:-20] + b"\n"]
-        odd = json.dumps({**row, "absolute": "/nowhere", "detail": "\ud800\udfff\udc80", "path": "\0"}).encode() + b"\n"
+        odd = json.dumps({**row, "absolute": "/nowhere", "detail": "\ud800\udfff\udc80", "path": "\udc80"}).encode() + b"\n"
         self.audits()
         self.log.write_bytes(head + one + b"".join(damaged) + odd + two)
         ran = self.resume("--program", program)

@@ -35,6 +35,20 @@ def fork():
     return begin()
 os.fork = fork
 """
+# Has processes that check begin no run, and the tool itself none as long as one of these is there.
+NO_ROOM = """
+import os, subprocess
+from dwgtools import processes
+popen = subprocess.Popen
+def no_room(*_, **__):
+    raise BlockingIOError(11, "Resource temporarily unavailable")
+class Popen(popen):
+    def __init__(self, *words, **more):
+        if any(one.returncode is None for one in list(processes.sessions_now)):
+            no_room()
+        super().__init__(*words, **more)
+os.posix_spawn, subprocess.Popen = no_room, Popen
+"""
 # Has it have four, whatever processors there are.
 FOUR = "from dwgtools import checkers\ncheckers.processors = lambda: 4"
 
@@ -96,6 +110,11 @@ class Processes(common.InFolder):
         size = len(made.made(3))
         expected = [["trailing bytes" if index else "sound", ""] if (size + index) % 2 == 0 else ["failed", "status 3"] for index in range(COUNT)]
         self.assertEqual([[row[1], row[2] if row[1] == "failed" else ""] for row in test_limits.rows(ran.stdout)], expected)
+
+    def test_no_room_for_what_they_run(self) -> None:
+        """They end, and the tool itself checks all files."""
+        alone, ran = self.said(ALONE), self.said(FOUR + NO_ROOM, "--jobs", 4)
+        self.assertEqual((ran.returncode, ran.stdout, ran.stderr), (1, alone.stdout, alone.stderr))
 
     def test_a_process_that_is_killed(self) -> None:
         """The tool checks the file of one by itself, and those that none is left for."""

@@ -374,6 +374,18 @@ class Fixity(common.InFolder):
         self.assertEqual((ran.returncode, self.said(ran)[0]), (0, ["a.dwg", "new", "sound"]))
         self.assertEqual(ran.stderr, f"dwg-check: {self.log}: a damaged line is passed, the first is line 2\n".encode())
 
+    def test_a_name_in_log_that_no_file_can_have_is_a_damaged_line(self) -> None:
+        """As one flipped bit of LOG makes one."""
+        self.file("d/" + os.fsdecode(b"\xff.dwg"), made.made(8))
+        self.keep()
+        data = self.log.read_bytes()
+        for name in (b'"absolute"', b'"path"'):
+            place = data.index(rb"\udcff", data.index(name, data.index(sha(made.made(8)).encode()) if name == b'"absolute"' else data.rindex(b"\n", 0, data.index(rb"\udcff"))))
+            self.log.write_bytes(data[:place] + rb"\uddff" + data[place + 6 :])
+            ran = self.compare()
+            self.assertEqual((ran.returncode, [row[:2] for row in self.said(ran) if row[1] != "same"]), (0, [[r"\xff.dwg", "new"]]))
+            self.assertEqual((ran.stderr.count(b"\n"), ran.stderr.count(b"a damaged line is passed")), (1, 1))
+
     def test_a_log_that_another_run_has(self) -> None:
         self.keep()
         hanging = program_that(self.folder, "hanging", [f'[ "$1" != audit ] || {{ touch "{self.folder}/begun"; until [ -e "{self.folder}/go" ]; do sleep 0.1; done; }}', 'exec "$REAL" "$@"'])
@@ -451,6 +463,94 @@ class Fixity(common.InFolder):
         self.assertEqual([line.split("\t")[1] for line in run("--verify").stdout.decode().splitlines()], ["verdict", "same", "same"])
         ran = self.compare(self.archive)
         self.assertEqual([row[:2] for row in self.said(ran)], [["a.dwg", "same"], ["b.dwg", "new"], ["deep/c.dwg", "new"], [r"o\xffd\n.dwg", "same"], ["x.dwg", "new"]])
+
+    def test_a_folder_or_file_that_became_a_link(self) -> None:
+        """What is found under a name of LOG is compared with what LOG has of that name, and each file is told once, by whatever spelling."""
+        self.keep()
+        real = self.folder / "real"
+        os.rename(self.archive, real)
+        self.archive.symlink_to("real")
+        names = {name: "same" for name in self.data}
+        for word in (self.archive, real, self.folder / "d" / "deep" / ".." / ".." / "d"):
+            ran = self.compare(word)
+            self.assertEqual([row[1] for row in self.said(ran)], ["same"] * 4, word)
+        self.assertEqual((self.compared(), self.compare(self.archive, real).stdout.count(b"\n")), (names, 5))
+        before = self.log.read_bytes()
+        self.assertEqual((self.keep().stderr, self.keep(real).stderr, self.log.read_bytes()), (b"", b"", before))
+        self.change("b.dwg")
+        for words in ([self.archive], [real], [self.archive, real], [self.archive / "b.dwg"]):
+            ran = self.compare(*words)
+            self.assertEqual((ran.returncode, [row[1:] for row in self.said(ran) if row[1] != "same"]), (68, [["changed", "of the same size and time"]]), words)
+        seen = tool("dwg-check", "--quiet", "--resume", self.log, "--verify", self.archive)
+        self.assertEqual((seen.returncode, seen.stdout.count(b"\tchanged\t")), (1, 1))
+        self.file("d/b.dwg", self.data["b.dwg"])
+        # What is gone beyond the link is gone.
+        (real / "deep" / "c.dwg").unlink()
+        for word in (self.archive, real):
+            self.assertEqual(self.keep(word).stderr, self.gone(False, "deep/c.dwg"))
+        # A file that became a link to another of LOG, or to a new one.
+        self.file("d/n.dwg", made.made(9))
+        for leads in ("a.dwg", "n.dwg"):
+            (self.archive / "b.dwg").unlink()
+            (self.archive / "b.dwg").symlink_to(leads)
+            for words in ([self.archive], [self.archive / "b.dwg", self.archive]):
+                ran = self.compare(*words)
+                self.assertEqual((ran.returncode, dict(row[:2] for row in self.said(ran))["b.dwg"]), (68, "changed"), leads)
+
+    def test_a_replaced_file_beyond_a_new_link_is_changed_for_resume_too(self) -> None:
+        """One that is sound, of the same size and time."""
+        (self.folder / "e").mkdir()
+        path = self.file("e/z.dwg", made.made(8))
+        told = path.stat()
+        run = lambda *words: tool("dwg-check", "--quiet", "--resume", self.log, *words, self.folder / "e")
+        run()
+        os.rename(self.folder / "e", self.folder / "f")
+        (self.folder / "e").symlink_to("f")
+        path.write_bytes(path.read_bytes()[:-1] + b"\x01")
+        os.utime(path, ns=(told.st_atime_ns, told.st_mtime_ns))
+        self.assertEqual(run("--verify").stdout.count(b"\tchanged\t"), 1)
+
+    def test_the_last_line_of_a_file_is_what_the_last_run_told(self) -> None:
+        """One that became another and was put right again, with its time, is the same then, whether a run read it or not."""
+        path = self.archive / "b.dwg"
+        for words in ([], ["--verify"]):
+            other = made.made(40)
+            os.utime(path, (1, 1))
+            self.keep()
+            path.write_bytes(other)
+            self.keep()
+            self.assertEqual(self.compared()["b.dwg"], "same")
+            path.write_bytes(self.data["b.dwg"])
+            os.utime(path, (1, 1))
+            tool("dwg-check", "--quiet", "--resume", self.log, *words, self.archive)
+            self.assertEqual((self.compared()["b.dwg"], self.compare().returncode), ("same", 0))
+            before = self.log.read_bytes()
+            self.keep()
+            self.assertEqual(self.log.read_bytes(), before)
+            path.write_bytes(other)
+            self.assertEqual(self.compare().returncode, 68)
+            path.write_bytes(self.data["b.dwg"])
+
+    def test_what_was_gone_and_came_back_with_another_content(self) -> None:
+        """LOG keeps what it had of a file until it is told to forget it, and then has nothing of it, in any run."""
+        self.keep()
+        row = next(row for row in self.lines() if row.get("absolute") == str(self.archive / "b.dwg"))
+        gone = {name: None for name in ("findings", "bytes", "trailing", "mtime_ns", "sha256", "refusal", "preview")}
+        # (as older tools wrote, of files that were gone)
+        with open(self.log, "ab") as file:
+            file.write(json.dumps({**row, **gone, "verdict": "unreadable", "detail": os.strerror(2), "version": ""}).encode() + b"\n")
+        self.change("b.dwg")
+        for _ in range(2):
+            self.assertEqual((self.compared()["b.dwg"], self.compare().returncode), ("changed of the same size and time", 68))
+            self.assertEqual(self.keep().stdout.count(b"\tchanged\t"), 1)
+        (self.archive / "b.dwg").rename(self.folder / "other")
+        self.assertEqual(self.compared()["b.dwg"], "missing")
+        self.keep("--forget", self.archive)
+        self.assertEqual((self.compare().returncode, "b.dwg" in self.compared()), (0, False))
+        (self.folder / "other").rename(self.archive / "b.dwg")
+        for said in ("new damaged", "same"):
+            self.assertEqual((self.compared()["b.dwg"][: len(said)], self.compare().returncode), (said, 0))
+            self.assertEqual(self.keep().stdout.count(b"\tchanged\t"), 0)
 
     def night(self, *words: str) -> "subprocess.CompletedProcess[bytes]":
         """What the script for cron of the manual page does over the archive."""

@@ -936,7 +936,7 @@ outputs.WholeFile.place = killing
         wrong: List[Any] = [
             7, "x", [], {}, {**made_line, "sha256": "0"}, {**made_line, "sha256": None}, {**made_line, "notes": 7}, {**made_line, "kept": -1}, {**made_line, "lost": "1"},
             {**made_line, "found": True}, {**made_line, "findings": 1.5}, {**made_line, "output": None}, {**made_line, "parts": None}, {**made_line, "parts": {"x": 1}},
-            {**made_line, "parts": {"map page": "1"}},
+            {**made_line, "parts": {"map page": "1"}}, {**made_line, "output": "\0"}, {**made_line, "output": "\ud800.dwg"},
         ]  # fmt: skip
         for one in wrong:
             with self.assertRaises(NoLine, msg=one):

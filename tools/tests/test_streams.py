@@ -122,6 +122,27 @@ class Paused(common.InFolder):
         os.close(end)
         self.assertEqual((started.returncode, said), (0, tool("dwg-json", self.path).stdout))
 
+    def test_a_pipe_to_read_that_is_written_into(self) -> None:
+        """A tool that reads what it writes itself would wait for ever."""
+        other, fifo = self.file("b.dwg", self.data), self.folder / "fifo"
+        os.mkfifo(fifo)
+        cases: List[Tuple[str, List[object]]] = [("dwg-check", [self.path, "/dev/fd/1", other]), ("dwg-check", ["/proc/self/fd/1", "-"]), ("dwg-check", ["/dev/stdout"])]
+        cases += [("dwg-info", [self.path, "/dev/fd/1"]), ("dwg-json", ["/dev/fd/1"]), ("dwg-diff", [other, "/dev/fd/1"])]
+        for tool_name, words in cases:
+            for ends in ({}, {"stderr": subprocess.STDOUT}):
+                with self.subTest(tool=tool_name, words=words, ends=ends), self.begun(tool_name, *words, **ends) as started:
+                    said, told = started.communicate(timeout=30)
+                    self.assertEqual(started.returncode, 2 if tool_name == "dwg-diff" else 73)
+                    self.assertEqual((told if told is not None else said).count(b"\n"), 1)
+                    self.assertIn(b"is standard output too, and no pipe is read that is written into", told or said)
+        with self.begun("dwg-check", self.path, "/dev/fd/2") as started:
+            said, told = started.communicate(timeout=30)
+        self.assertEqual((started.returncode, said, told), (73, b"", b"dwg-check: /dev/fd/2 is standard error too, and no pipe is read that is written into\n"))
+        end = os.open(fifo, os.O_RDWR | os.O_NONBLOCK)
+        with self.begun("dwg-info", fifo, stdout=end) as started:
+            self.assertEqual((started.wait(timeout=30), waiting_in(end)), (73, 0))
+        os.close(end)
+
     def held_up(self, stream: str, name: str, *words: object) -> Tuple[int, bytes]:
         """What a tool answers, and prints into such a pipe, which holds little and is read when it is full."""
         end, begin = os.pipe()
