@@ -41,10 +41,8 @@ pub(crate) fn no_marks(alloc: Global, count: usize) -> Result<Vec<bool>, NoMemor
     ensures places { IfOk result (λ table. length table.items ≡ count) }
     ensures unmarked { IfOk result (λ table. (place : ℕ) → marked table.items place ≡ false) }
 {
-    match vec![in alloc; false; count] {
-        Ok(table) => Ok(table),
-        Err(_) => Err(NoMemory),
-    }
+    let table = vec![in alloc; false; count]?;
+    Ok(table)
 }
 
 /// A table of so many places without numbers. Err: out of memory.
@@ -52,10 +50,8 @@ pub(crate) fn no_numbers(alloc: Global, count: usize) -> Result<Vec<Option<usize
     ensures places { IfOk result (λ table. length table.items ≡ count) }
     ensures empty { IfOk result (λ table. (place : ℕ) → leads table.items place ≡ None) }
 {
-    match vec![in alloc; None; count] {
-        Ok(table) => Ok(table),
-        Err(_) => Err(NoMemory),
-    }
+    let table = vec![in alloc; None; count]?;
+    Ok(table)
 }
 
 /// Whether a place is a member of a home.

@@ -57,10 +57,7 @@ pub(crate) fn read_items(
         let Some(item) = read_item(alloc, size, cursor, base)? else {
             return Ok(None);
         };
-        match found.push(item) {
-            Ok(()) => {}
-            Err(_) => return Err(NoMemory),
-        }
+        found.try_push(item)?;
     }
 }
 

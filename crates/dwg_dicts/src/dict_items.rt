@@ -37,10 +37,7 @@ pub(crate) fn read_items(
         let Some(target) = parse_ref(refs, base) else {
             return Ok(None);
         };
-        match found.push(DictItem { name, target }) {
-            Ok(()) => {}
-            Err(_) => return Err(NoMemory),
-        }
+        found.try_push(DictItem { name, target })?;
     }
     Ok(Some(found))
 }

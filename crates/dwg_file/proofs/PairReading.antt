@@ -6,6 +6,7 @@ use Rattle.std.specs.Prelude.{Result, Ok, Err, if◌then◌else◌}
 use Rattle.std.proofs.lemmas.Bool.Decides.{nat_tests}
 use Rattle.dwg_base.proofs.ByteLists.{are_bytes}
 use Rattle.dwg_base.specs.Refusal.{Refusal}
+use Rattle.dwg_base.specs.Refusals.{Tried}
 use Rattle.dwg_base.specs.declared.refusal.Fault.{Fault}
 use Rattle.dwg_base.specs.declared.refusal.Fault.TheVariants.{NoMemory, Refused}
 use Rattle.dwg_classes.specs.declared.class.Class.{Class}
@@ -53,6 +54,11 @@ pub answered_at_pair : (version : Version) (bytes : List ℕ) (place from index 
 answered_at_pair version bytes place from index result reported same answers =
     subst (λ (n : ℕ). AnswersFrame result (tried_frame (version_at bytes) n index bytes)) same (subst (λ (v : Version). AnswersFrame result (tried_frame v from index bytes)) reported answers)
 
+-- a result that is a fault answers a pair as the fault does
+pub answered_by : (classes : List Class) (bytes : List ℕ) (pair : Pair) (tried : Tried FoundFrame) (result : Result Found Fault) (fault : Fault) → result ≡ Err fault
+    → AnswersPair classes bytes pair tried (Err fault) → AnswersPair classes bytes pair tried result
+answered_by classes bytes pair tried result fault is = subst (AnswersPair classes bytes pair tried) (sym is)
+
 -- and so is what was found
 pub found_at_pair : (version : Version) (bytes : List ℕ) (place from : ℕ) (classes : List Class) (found : Found) → version ≡ version_at bytes → from ≡ place
     → (body : List ℕ) × FrameAt bytes from body found.end × FormOf version classes body (value_of found.object)
@@ -66,6 +72,14 @@ pub frame_refused : (classes : List Class) (bytes : List ℕ) (earlier : List Fo
 frame_refused classes bytes earlier index pair span NoMemory tried apart answers = tt
 frame_refused classes bytes earlier index pair span (Refused refusal) tried apart answers =
     frame_decides bytes earlier index pair span tried apart ∙ ap (with_handle pair index) answers
+
+-- and so does one that is passed on, whatever it became on the way
+pub fault_passed_on : (classes : List Class) (bytes : List ℕ) (earlier : List FoundFrame) (index : ℕ) (pair : Pair) (span : Span) (version : Version) (fault passed : Fault) → passed ≡ fault
+    → tried_span pair.place index bytes ≡ Ok span → touches earlier span.from span.end ≡ false → version ≡ version_at bytes → span.from ≡ pair.place
+    → AnswersFrame (Err fault) (tried_frame version span.from index bytes) → AnswersPair classes bytes pair (tried_pair bytes earlier index pair) (Err passed)
+fault_passed_on classes bytes earlier index pair span version fault passed is tried apart reported same answers =
+    subst (λ (f : Fault). AnswersPair classes bytes pair (tried_pair bytes earlier index pair) (Err f)) (sym is)
+    (frame_refused classes bytes earlier index pair span fault tried apart (answered_at_pair version bytes pair.place span.from index (Err fault) reported same answers))
 
 -- a frame with another handle is refused
 pub handle_refused : (classes : List Class) (bytes : List ℕ) (earlier : List FoundFrame) (index own : ℕ) (pair : Pair) (span : Span) (found : Found) (fault : Fault) → tried_span pair.place index bytes ≡ Ok span

@@ -50,17 +50,11 @@ fn frame_of_pair<'a>(
     ensures apart { IfOk result (λ found. shares taken.now pair.now.place found.end ≡ false) }
 {
     let place = pair.place;
-    let span = match span_at(bytes, place, index) {
-        Ok(span) => span,
-        Err(refusal) => return Err(Fault::Refused(refusal)),
-    };
+    let span = span_at(bytes, place, index)?;
     if taken.shares(span.from, span.end) {
         return Err(refused(FRAME_OVERLAP, index, place));
     }
-    let found = match read_span(alloc, bytes, &span, index, hints, Version::of_input(bytes)) {
-        Ok(found) => found,
-        Err(fault) => return Err(fault),
-    };
+    let found = read_span(alloc, bytes, &span, index, hints, Version::of_input(bytes))?;
     if !has_handle(&found, pair.handle) {
         return Err(refused(FRAME_HANDLE, index, place));
     }

@@ -52,10 +52,7 @@ pub(crate) fn read_vertices(
         let Some(point) = read_vertex(before, cursor) else {
             return Ok(None);
         };
-        match found.push(point) {
-            Ok(()) => {}
-            Err(_) => return Err(NoMemory),
-        }
+        found.try_push(point)?;
         before = before_next(version, point);
     }
     Ok(Some(found))

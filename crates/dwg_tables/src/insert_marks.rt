@@ -63,10 +63,7 @@ pub(crate) fn read_counts(
         if count == END_OF_MARKS {
             return Ok(Some(counts));
         }
-        match counts.push(count) {
-            Ok(()) => {}
-            Err(_) => return Err(NoMemory),
-        }
+        counts.try_push(count)?;
     }
 }
 

@@ -54,10 +54,7 @@ pub(crate) fn read_names<P>(
         let Some(name) = parse_ref(cursor, base) else {
             return Ok(None);
         };
-        match names.push(name) {
-            Ok(()) => {}
-            Err(_) => return Err(NoMemory),
-        }
+        names.try_push(name)?;
     }
     Ok(Some(names))
 }
@@ -73,10 +70,7 @@ pub(crate) fn join_all<P, V: Joined<P> + Drop>(
 {
     let mut members = Items::new(alloc);
     'parts: for (place, part) in parsed.iter().enumerate() {
-        match members.push(V::joined(part, names[place])) {
-            Ok(()) => {}
-            Err(_) => return Err(NoMemory),
-        }
+        members.try_push(V::joined(part, names[place]))?;
     }
     Ok(members)
 }

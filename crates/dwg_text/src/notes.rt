@@ -75,10 +75,8 @@ pub fn refusal_line(alloc: Global, refusal: Refusal) -> Result<String, AllocErro
 pub fn refusal_note(alloc: Global, refusal: Refusal) -> Result<ByteRun, NoMemory>
     ensures { IfOk result (λ note. note ≡ texts.refusal_note refusal) }
 {
-    match refusal_line(alloc, refusal) {
-        Ok(note) => Ok(ByteRun::from_vec(note.into_bytes())),
-        Err(_) => Err(NoMemory),
-    }
+    let note = refusal_line(alloc, refusal)?;
+    Ok(ByteRun::from_vec(note.into_bytes()))
 }
 
 #[tactic(auto, unfolding(crate::specs::Notes::too_large_note))]
@@ -94,8 +92,6 @@ fn too_large_text(alloc: Global, size: u64) -> Result<String, AllocError>
 pub fn too_large_note(alloc: Global, size: u64) -> Result<ByteRun, NoMemory>
     ensures { IfOk result (λ note. note ≡ texts.too_large_note size) }
 {
-    match too_large_text(alloc, size) {
-        Ok(note) => Ok(ByteRun::from_vec(note.into_bytes())),
-        Err(_) => Err(NoMemory),
-    }
+    let note = too_large_text(alloc, size)?;
+    Ok(ByteRun::from_vec(note.into_bytes()))
 }

@@ -10,7 +10,7 @@ use Rattle.dwg_common.proofs.app_list.read_items.Goals as goal
 pub items-preserved : goal.items-preserved
 items-preserved c = record {
   so_far = one_begun bs (λ size. size == 0) (app_item c.args.base) c.items.found _ c.in-Some.size c.in-Some-2.item _ _ _ _ (app_takes c.args.base (search))
-      (unmarked c.in-Some.size c.if-size-eq-MARK.false) c.in-Ok.ensures.ok
+      (unmarked c.in-Some.size c.if-size-eq-MARK.false) c.in_ok-try_push.ensures
       (found_parsed bs c.parse_code.result c.in-Some.size _ _ c.in-Some.is c.parse_code.ensures.parsed)
       (found_parsed (app_item c.args.base c.in-Some.size) c.in_ok-item.field-0 c.in-Some-2.item _ _ c.in-Some-2.is c.in_ok-item.ensures.parsed)
       c.items.invariant.so_far;
@@ -23,7 +23,7 @@ items-smaller c =
     let after = c.read_item.new.cursor in
     omega (
       arith,
-      value_takes bs (app_item c.args.base) c.in-Some.size c.in-Some-2.item _ _ _ (app_takes c.args.base (search))
+      value_takes bs (app_item c.args.base) c.in-Some.size c.in-Some-2.item _ _ _ (app_takes c.args.base (let w = c.well_formed in search))
           (found_parsed bs c.parse_code.result c.in-Some.size _ _ c.in-Some.is c.parse_code.ensures.parsed)
           (found_parsed (app_item c.args.base c.in-Some.size) c.in_ok-item.field-0 c.in-Some-2.item _ _ c.in-Some-2.is c.in_ok-item.ensures.parsed),
       length_of_bits_between before.bytes.now before.place before.end before.within,

@@ -26,9 +26,9 @@ returns-in_default-parse_ref-clause-parsed c =
 pub items-preserved : goal.items-preserved
 items-preserved c = record {
   names = one_begun (λ (state : ℕ). tv) (λ (name : List ℕ). 0) 0 0 c.args.count _ (names_of c.items.found) _ c.in_ok-name.field-0 c.in-Some.name _ _ _ c.items-test.true
-      (part_more (λ (item : DictItem). item.name) c.items.found _ _ c.in-Ok.ensures.ok) c.in-Some.is c.in_ok-name.ensures.parsed c.items.invariant.names;
+      (part_more (λ (item : DictItem). item.name) c.items.found _ _ c.in_ok-try_push.ensures) c.in-Some.is c.in_ok-name.ensures.parsed c.items.invariant.names;
   targets = one_begun (λ (state : ℕ). reference c.args.base) (λ (target : Reference). 0) 0 0 c.args.count _ (targets_of c.items.found) _ c.parse_ref.result c.in-Some-parse_ref.target
-      _ _ _ c.items-test.true (part_more (λ (item : DictItem). item.target) c.items.found _ _ c.in-Ok.ensures.ok) c.in-Some-parse_ref.is c.parse_ref.ensures.parsed c.items.invariant.targets;
+      _ _ _ c.items-test.true (part_more (λ (item : DictItem). item.target) c.items.found _ _ c.in_ok-try_push.ensures) c.in-Some-parse_ref.is c.parse_ref.ensures.parsed c.items.invariant.targets;
   kept = search rules;
   refs_kept = search rules;
 }

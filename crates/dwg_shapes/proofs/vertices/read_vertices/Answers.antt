@@ -14,8 +14,8 @@ returns-in_default-clause-parsed c =
 
 pub points-preserved : goal.points-preserved
 points-preserved c = record {
-  so_far = subst (λ (before : Option Point2). IsBegun vertex (before_next c.args.version) None before c.args.count (c.points.counter + 1) c.push.new.self (rest c.args.cursor.now) (rest c.read_vertex.new.cursor)) (sym c.before_next-before.ensures)
+  so_far = subst (λ (before : Option Point2). IsBegun vertex (before_next c.args.version) None before c.args.count (c.points.counter + 1) c.try_push.new.self (rest c.args.cursor.now) (rest c.read_vertex.new.cursor)) (sym c.before_next-before.ensures)
       (one_begun vertex (before_next c.args.version) None c.points.before c.args.count _ c.points.found _ c.read_vertex.result c.in-Some.point _ _ _
-      c.points-test.true c.in-Ok.ensures.ok c.in-Some.is c.read_vertex.ensures.parsed c.points.invariant.so_far);
+      c.points-test.true c.in_ok-try_push.ensures c.in-Some.is c.read_vertex.ensures.parsed c.points.invariant.so_far);
   kept = search rules;
 }

@@ -10,7 +10,7 @@ use Rattle.dwg_tables.proofs.insert_marks.read_counts.Goals as goal
 pub marks-preserved : goal.marks-preserved
 marks-preserved c = record {
   so_far = one_begun rc (λ count. count == 0) (λ (count : ℕ). always count) c.marks.counts _ c.in-Some.count c.in-Some.count _ _ _ _ counts_take
-      (unmarked c.in-Some.count c.if-count-eq-END_OF_MARKS.false) c.in-Ok.ensures.ok
+      (unmarked c.in-Some.count c.if-count-eq-END_OF_MARKS.false) c.in_ok-try_push.ensures
       (found_parsed rc c.parse_code.result c.in-Some.count _ _ c.in-Some.is c.parse_code.ensures.parsed) refl c.marks.invariant.so_far;
   kept = search rules;
 }

@@ -14,7 +14,7 @@ returns-in_default-clause-parsed g c =
 pub names-preserved : goal.names-preserved
 names-preserved g c = record {
   so_far = one_begun (λ (state : ℕ). reference c.args.base) (λ (name : Reference). 0) 0 0 (length c.args.parsed.now) _ c.names.names _ c.parse_ref.result c.in-Some.name _ _ _
-      c.names-test.true c.in-Ok.ensures.ok c.in-Some.is c.parse_ref.ensures.parsed c.names.invariant.so_far;
+      c.names-test.true c.in_ok-try_push.ensures c.in-Some.is c.parse_ref.ensures.parsed c.names.invariant.so_far;
   kept = search rules;
 }
 
