@@ -1,8 +1,8 @@
 # What there is to do with this folder; each is a line of what stands already. make alone proves and builds the program.
 #
 # make install takes PREFIX (/usr/local) and DESTDIR, whatever is in their names. The tools stand together in PREFIX/lib/dwg, links to them in
-# PREFIX/bin. make uninstall takes away what install brought, and nothing else: without the file COMMIT that install writes first, nothing outside of
-# PREFIX/lib/dwg.
+# PREFIX/bin. make uninstall takes away what install brought, and nothing else: without the file COMMIT that install writes first, nothing at all.
+# Where PREFIX/lib/dwg is this folder, neither does anything.
 
 PREFIX = /usr/local
 DESTDIR =
@@ -37,6 +37,9 @@ is_one = [ "$$(CDPATH= cd -P $(1) 2>/dev/null && pwd -P)" = "$$(CDPATH= cd -P $(
 # What leads from bin and from lib/dwg to PREFIX: by a link in the place of a folder on the way that is its whole name.
 way = if $(call is_one,$(bin)/../lib/dwg,$(lib)) && $(call is_one,$(lib)/../../bin,$(bin)); then from_bin=..; from_lib=../..; else from_bin=$(final); from_lib=$(final); fi
 
+# Refuses a PREFIX whose lib/dwg, or what is to be its tools, is this folder's own.
+refuse_own = if $(call is_one,$(lib),.) || $(call is_one,$(lib)/tools,tools) || $(call is_one,$(lib)/tools/dwgtools,tools/dwgtools); then echo $(lib) is this folder itself >&2; exit 1; fi
+
 .PHONY: build test check-tools bench install uninstall
 
 build:
@@ -55,6 +58,7 @@ bench:
 places = $(lib)/dwg $(addprefix $(bin)/,dwg $(TOOLS)) $(addprefix $(completions)/,dwg $(TOOLS))
 
 install: build
+	@$(refuse_own)
 	@for place in $(places); do if [ -d "$$place" ] && [ ! -L "$$place" ]; then echo "$$place is a folder" >&2; exit 1; fi; done
 	install -d $(bin) $(lib)/tools/dwgtools $(man)/man1 $(man)/man7 $(completions)
 	rm -f $(lib)/COMMIT
@@ -74,10 +78,11 @@ install: build
 	for tool in $(TOOLS); do ln -sfn dwg $(completions)/"$$tool"; done
 
 uninstall:
+	@$(refuse_own)
 	@[ -e $(lib)/COMMIT ] || echo no tools are installed in $(lib) >&2
 	[ ! -e $(lib)/COMMIT ] || for tool in $(TOOLS); do rm -f $(bin)/"$$tool" $(lib)/tools/"$$tool" $(man)/man1/"$$tool".1 $(completions)/"$$tool"; done
-	for module in $(notdir $(MODULES)); do rm -f $(lib)/tools/dwgtools/"$$module"; done
+	[ ! -e $(lib)/COMMIT ] || for module in $(notdir $(MODULES)); do rm -f $(lib)/tools/dwgtools/"$$module"; done
 	[ ! -e $(lib)/COMMIT ] || rm -f $(bin)/dwg $(lib)/dwg $(man)/man1/dwg.1 $(man)/man7/dwg-tools.7 $(completions)/dwg
-	rm -f $(lib)/COMMIT
-	rm -rf $(lib)/tools/dwgtools/__pycache__
+	[ ! -e $(lib)/COMMIT ] || rm -rf $(lib)/tools/dwgtools/__pycache__
+	[ ! -e $(lib)/COMMIT ] || rm -f $(lib)/COMMIT
 	for folder in $(lib)/tools/dwgtools $(lib)/tools $(lib); do [ ! -d "$$folder" ] || [ -L "$$folder" ] || rmdir "$$folder" || :; done

@@ -5,9 +5,10 @@ from __future__ import annotations
 import argparse
 import contextlib
 import os
+import re
 import subprocess
 import sys
-from typing import Any, NoReturn, Sequence, Tuple
+from typing import Any, Callable, NoReturn, Sequence, Tuple
 
 from . import TOP
 from .encodings import named_page
@@ -58,6 +59,17 @@ class Parser(argparse.ArgumentParser):
         with contextlib.suppress(OSError):
             self.print_usage(sys.stderr)
         raise ToolError(message, Exit.USAGE)
+
+
+def whole_number(least: int, most: int) -> Callable[[str], int]:
+    """What reads a word of a command line as a number from one to another: ASCII digits alone, no more than the greatest has."""
+
+    def number(word: str) -> int:
+        if not re.fullmatch("[0-9]{1,%d}" % len(str(most)), word) or not least <= int(word) <= most:
+            raise argparse.ArgumentTypeError(f"{word!r} is no number from {least} to {most}")
+        return int(word)
+
+    return number
 
 
 def _page(word: str) -> str:

@@ -7,7 +7,7 @@ import errno
 import hashlib
 import os
 import threading
-from typing import Callable, Optional
+from typing import Callable, Optional, Set
 
 from .escapes import one_line
 from .inputs import bytes_of
@@ -19,6 +19,7 @@ from .statuses import Exit, Status, ToolError
 from .streams import ENDING, FOLDER
 from .verdicts import failed_with, open_regular
 from .versions import LIMIT
+from .walking import status_of
 
 
 def folder_of(log: str) -> str:
@@ -33,6 +34,10 @@ class Certificates:
         self.folder, self.fault = folder_of(log), ""
         self.name, self._tell = one_line(self.folder), tell_fault
         self._lock = threading.Lock()
+        # The SHA-256 of each drawing whose certificate the run found or wrote, which is to be there at its end.
+        self._stood: Set[str] = set()
+        # Whether none can be written any more.
+        self._is_full = False
         if os.path.lexists(self.folder) and not os.path.isdir(self.folder):
             raise ToolError(f"{self.name} is there, and no folder", Exit.EXISTS)
         mask_of_modes()
@@ -52,12 +57,18 @@ class Certificates:
 
     def has(self, row: Row) -> bool:
         """Whether all is kept that belongs to what was found of a file: its SHA-256, and of a sound drawing its certificate."""
-        return row.sha256 is not None and (row.verdict != "sound" or os.path.isfile(self.path_of(row.sha256)))
+        if row.sha256 is None or row.verdict != "sound":
+            return row.sha256 is not None
+        is_there = os.path.isfile(self.path_of(row.sha256))
+        if is_there:
+            self._stood.add(row.sha256)
+        return is_there
 
     def has_file(self, path: str) -> bool:
         """Whether a file stands in the folder."""
         above = os.path.dirname(path)
-        return above.endswith(FOLDER) and os.path.isdir(self.folder) and os.path.samefile(above, self.folder)
+        found, own = (status_of(above), status_of(self.folder)) if above.endswith(FOLDER) else (None, None)
+        return found is not None and own is not None and os.path.samestat(found, own)
 
     def read(self, digest: str) -> Optional[bytes]:
         """The certificate of a drawing, no more of it than the program takes; None where none is kept."""
@@ -87,7 +98,7 @@ class Certificates:
     def _keep(self, digest: str, certificate: bytes) -> None:
         """Writes a certificate whole or not at all; where that fails it is told at once, and no other is written."""
         with self._lock:
-            if self.fault:
+            if self._is_full:
                 return
         try:
             with self._lock:
@@ -100,8 +111,15 @@ class Certificates:
             with contextlib.suppress(FileExistsError):
                 write_whole(self.path_of(digest), certificate)
             self._refuse_other(digest, certificate)
+            self._stood.add(digest)
+        except FileExistsError as fault:
+            # (the name of one certificate says nothing of the others)
+            self._fail(str(fault.strerror))
         except OSError as fault:
-            self._fail(f"{fault.strerror}; no certificate is kept from now on")
+            with self._lock:
+                is_first, self._is_full = not self._is_full, True
+            if is_first:
+                self._fail(f"{fault.strerror}; no certificate is kept from now on")
 
     def _refuse_other(self, digest: str, certificate: bytes) -> None:
         """Refuses what stands at the name of a certificate, and isn't that."""
@@ -111,14 +129,13 @@ class Certificates:
             raise FileExistsError(errno.EEXIST, f"{digest}{ENDING} is another file")
 
     def _fail(self, why: str) -> None:
-        """Tells the first fault."""
+        """Tells a fault."""
         with self._lock:
-            is_first, self.fault = not self.fault, self.fault or why
-        if is_first:
-            self._tell(f"{self.name}: {why}")
+            self.fault = self.fault or why
+        self._tell(f"{self.name}: {why}")
 
     def close(self) -> None:
-        """Sees that the folder that was there, or was made, is the one of its name at the end."""
+        """Sees that the folder that was there, or was made, is the one of its name at the end, and has each certificate that the run found or wrote."""
         if self._handle < 0:
             return
         try:
@@ -127,8 +144,31 @@ class Certificates:
             is_there = False
         if not is_there:
             self._fail("it was removed or replaced meanwhile; certificates that were in it are lost")
+        else:
+            self._tell_removed()
         os.close(self._handle)
         self._handle = -1
+
+    def _tell_removed(self) -> None:
+        """Tells which certificates aren't there any more."""
+        try:
+            with os.scandir(self._handle) as entries:
+                there = {entry.name for entry in entries if is_file(entry)}
+        except OSError as fault:
+            self._fail(f"whether all certificates are there isn't known: {fault.strerror}")
+            return
+        removed = sorted(digest for digest in list(self._stood) if digest + ENDING not in there)
+        if not removed:
+            return
+        what = f"{len(removed)} certificates were removed meanwhile, the first is" if len(removed) > 1 else "a certificate was removed meanwhile:"
+        self._fail(f"{what} {removed[0]}{ENDING}")
+
+
+def is_file(entry: "os.DirEntry[str]") -> bool:
+    """Whether a regular file has a name of a folder, by links too."""
+    with contextlib.suppress(OSError):
+        return entry.is_file()
+    return False
 
 
 def certificate_of(program: Program, data: bytes) -> bytes:

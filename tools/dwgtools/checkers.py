@@ -17,7 +17,7 @@ from dataclasses import dataclass
 from typing import IO, Callable, Dict, List, Optional, Sequence, Union
 
 from .notes import MOST_NOTES
-from .processes import Session, processors, running_now, send_to_all, sessions_now
+from .processes import Session, end_own_session, end_running, processors, running_now, send_to_all, sessions_now
 from .program import NoTemporary, Program, ProgramFailed, Tally, Watch, lines_told, status_of_run
 from .rows import Row
 from .signals import uninterrupted
@@ -75,6 +75,8 @@ class Quick(Program):
 
     def __init__(self, path: str) -> None:
         super().__init__(path)
+        # (the tool waits until this is there)
+        self._tool = os.getppid()
         self._environment: Dict[bytes, bytes] = dict(os.environb)
         self._notes: Optional[IO[bytes]] = None
 
@@ -88,7 +90,7 @@ class Quick(Program):
                 os.close(gives)
             run = Spawned(number)
             try:
-                watch = Watch(words[0], source, number, notes=self._notes)
+                watch = Watch(words[0], source, number, notes=self._notes, besides=self.besides)
                 lines = lines_told(watch.passed(given, run.has_ended))
             except BaseException:
                 run.kill()
@@ -99,6 +101,12 @@ class Quick(Program):
             os.close(given)
         said = os.pread(notes, MOST_NOTES, 0)
         return Tally(status_of_run(code, said), *lines, said)
+
+    def besides(self) -> None:
+        """Ends this process with all that it runs, where the tool was killed outright, which would have ended them."""
+        if os.getppid() != self._tool:
+            end_running()
+            end_own_session()
 
     def _empty_notes(self) -> int:
         """A file without a name for notes, the same one each time."""

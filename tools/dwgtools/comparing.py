@@ -13,7 +13,8 @@ from typing import IO, Any, Callable, Deque, Dict, Iterable, Iterator, List, Opt
 from .certificates import Certificates, refusal_of
 from .escapes import one_line
 from .inputs import bytes_of
-from .log import Contents, Places, content_of, is_gone, open_log, read_row, refuse_file, take_lines
+from .log import LED_ELSEWHERE, Contents, Links, Places, content_of, is_gone, open_log, read_row, refuse_file, spelled_name
+from .log_lines import take_lines
 from .program import Program, ProgramFailed
 from .rows import Row, as_object
 from .statuses import Exit, ToolError
@@ -56,6 +57,7 @@ class Kept(Contents):
     def __init__(self, path: str, tell_fault: Callable[[str], None]) -> None:
         super().__init__()
         self.name, self.is_link = one_line(path), os.path.islink(path)
+        self.links = Links()
         try:
             self._file = open_log(path, is_only_read=True)
             self.place = os.fstat(self._file.fileno())
@@ -68,18 +70,28 @@ class Kept(Contents):
             raise ToolError(f"{self.name}: {fault.strerror}", Exit.FAILURE) from None
         if not self:
             raise ToolError(f"{self.name} has no file", Exit.NOTHING_FOUND)
-        self._places = Places(self.keys())
+        self._places = Places({*self, *self.without})
 
     def _take(self, told: Dict[str, Any], _maker: object) -> None:
         self.take(*read_row(told))
+        self.links.take(told)
 
     def name_of(self, path: str) -> str:
         """The name under which LOG has a file, or would have it."""
         return self._places.name_of(path)
 
+    def led_to(self, path: str) -> Optional[str]:
+        """The name of the file of LOG to which a path led, where that is another than the one to which it leads now."""
+        name = self.links.get(spelled_name(path))
+        return None if name is None or name not in self or name == self.name_of(path) else name
+
+    def had(self, path: str) -> Optional[Row]:
+        """What LOG has of the file to which a path led."""
+        return self.get(self.led_to(path) or self.name_of(path))
+
     def named(self, absolute: str) -> Row:
         """What LOG has of a file, by the name that the words had, where that leads there from here, and else by its whole name."""
-        row = self[absolute]
+        row = self[absolute] if absolute in self else self.without[absolute]
         return row if self.name_of(row.path) == absolute else replace(row, path=absolute)
 
 
@@ -106,9 +118,8 @@ class Missing:
             row.verdict, row.detail = "new", self._verdicts[content_of(row)]
 
     def rest(self) -> List[Row]:
-        """The lines of those that are nowhere, in order of name."""
-        rest = (kept for rows in self._left.values() for kept in rows)
-        return [Compared(kept.path, "missing", kept=kept) for kept in sorted(rest, key=lambda kept: os.fsencode(kept.path))]
+        """The lines of those that are nowhere."""
+        return [Compared(kept.path, "missing", kept=kept) for rows in self._left.values() for kept in rows]
 
 
 class Comparer(Checker):
@@ -120,20 +131,23 @@ class Comparer(Checker):
 
     def compared(self, one: Named) -> Row:
         """The line of a file: whatever happens to it, there is one."""
-        kept = self._kept.get(self._kept.name_of(one.path))
+        name, kept = self._kept.name_of(one.path), self._kept.had(one.path)
         found = Row(one.path, "unreadable", one.fault) if one.fault is not None else self.check(one.path)
+        if self._kept.name_of(one.path) != name:
+            found = Row(one.path, "failed", LED_ELSEWHERE)
         row = found if isinstance(found, Compared) else Compared(**vars(found), kept=kept, is_new=kept is None)
         if row.verdict == "unreadable" and kept is not None and is_gone(one.path):
             row.verdict, row.detail = "missing", ""
         return row
 
     def checked(self, file: IO[bytes], row: Row) -> Row:
-        told, kept = os.fstat(file.fileno()), self._kept.get(self._kept.name_of(row.path))
+        told, kept = os.fstat(file.fileno()), self._kept.had(row.path)
         line = Compared(row.path, "new", bytes=told.st_size, mtime_ns=told.st_mtime_ns, kept=kept, is_new=kept is None)
         line.sha256 = self.digest(file, told.st_size)
         had = self._missing.verdict_of(line) if kept is None else kept.verdict
+        led_to = self._kept.led_to(row.path)
         if kept is not None and content_of(line) != content_of(kept):
-            line.verdict, line.detail = "changed", change_of(line, kept)
+            line.verdict, line.detail = "changed", change_of(line, kept) if led_to is None else f"it led to {led_to}"
         elif had is not None:
             line.verdict = "moved" if kept is None else "same"
             self.see_accepted(file, line, had)
@@ -184,24 +198,35 @@ def change_of(line: Row, kept: Row) -> str:
 
 
 def planned(found: Iterable[Named], kept: Kept) -> Tuple[List[Named], List[Row]]:
-    """The files to compare: those that are found, each once, and those that LOG has elsewhere; and what LOG has of names at which nothing is."""
+    """The files to compare: those that are found, each once, and those that LOG has elsewhere; and what LOG has of names at which nothing is, but for
+    links. A link that leads elsewhere than it did is a file of its own."""
     plan: List[Named] = []
     seen: Set[str] = set()
     for one in found:
         name = kept.name_of(one.path)
+        own = name if kept.led_to(one.path) is None else spelled_name(one.path)
         # (a word may name a file that is missing)
-        if name not in seen and not (name in kept and is_gone(one.path)):
-            seen.add(name)
+        if own not in seen and not (name in kept and is_gone(one.path)):
+            seen.add(own)
             plan.append(one)
-    rest = sorted(kept.keys() - seen, key=os.fsencode)
+    plan += [Named(link) for link in sorted(kept.links.keys() - seen, key=os.fsencode) if kept.led_to(link) is not None and not is_gone(link)]
+    # (a folder that couldn't be read has a line too)
+    rest = sorted({*kept, *(name for name in kept.without if not os.path.isdir(name))} - seen, key=os.fsencode)
     gone = set(filter(is_gone, rest))
-    return [*plan, *(Named(kept.named(name).path) for name in rest if name not in gone)], [kept.named(name) for name in rest if name in gone]
+    return [*plan, *(Named(kept.named(name).path) for name in rest if name not in gone)], [kept.named(name) for name in rest if name in gone and name in kept]
 
 
-def compared_rows(rows: Iterable[Row], missing: Missing) -> Iterator[Row]:
+def lost_names(kept: Kept) -> List[Row]:
+    """The lines of names at which nothing is, though LOG has them: of links to files that are there, and of files of which it has no content."""
+    links = (replace(kept[name], path=link) for link, name in kept.links.items() if name in kept and is_gone(link) and not is_gone(name))
+    files = (kept.named(name) for name in kept.without if is_gone(name))
+    return [Compared(row.path, "missing", kept=row) for row in (*links, *files)]
+
+
+def compared_rows(rows: Iterable[Row], missing: Missing, lost: List[Row]) -> Iterator[Row]:
     """The lines of files as they come, each new one known again that is a missing one; at last those that are nowhere."""
     for row in rows:
         if isinstance(row, Compared) and row.is_new:
             missing.take(row)
         yield row
-    yield from missing.rest()
+    yield from sorted([*missing.rest(), *lost], key=lambda row: os.fsencode(row.path))

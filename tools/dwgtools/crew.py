@@ -25,12 +25,16 @@ class Crew:
                 thread = threading.Thread(target=self._work, daemon=True)
                 thread.start()
                 self._threads.append(thread)
+            # (a check needs room for a process too: where that is none all would fail, and where it is one they take turns)
+            more = threading.Thread(target=bool, daemon=True)
+            more.start()
+            more.join()
         except RuntimeError:
             self._make_room()
 
     def _make_room(self) -> None:
         """Lets half of the threads end, since each thread needs a process of its own too."""
-        kept = len(self._threads) - len(self._threads) // 2
+        kept = len(self._threads) // 2
         for _ in range(len(self._threads) - kept):
             self._tasks.put(None)
         while len(self._threads) > kept:

@@ -7,7 +7,7 @@ import itertools
 import os
 from typing import IO, Iterator, Optional, Tuple
 
-from .inputs import CHANGED, open_input, state_of
+from .inputs import CHANGED, Input, open_input
 from .names import Names
 from .pieces import Taker, names_in, objects_in
 from .program import NoTemporary, Program
@@ -24,14 +24,14 @@ class Told(ToolError):
 
 
 class Drawing:
-    """A drawing that can be shown more than once: a file, or what comes by a pipe, kept in a file without a name meanwhile."""
+    """A drawing that can be shown more than once, and is the same each time: an input, which is read here where it isn't given."""
 
-    def __init__(self, program: Program, path: Optional[str], file: Optional[IO[bytes]] = None, page: Optional[str] = None) -> None:
+    def __init__(self, program: Program, path: Optional[str], given: Optional[Input] = None, page: Optional[str] = None) -> None:
         # (the code page by which texts are read, where it isn't that of the header)
         self.program, self.page = program, page
         self.name = input_name(path)
-        self.file = open_input(path) if file is None else file
-        self._state = state_of(self.file)
+        self.input = open_input(path) if given is None else given
+        self.file, self.size = self.input.file, self.input.size
 
     @contextlib.contextmanager
     def show(self, lists: Lists = Lists.TEXT, is_taken: Optional[Taker] = None) -> Iterator[Tuple[Prefix, Iterator[Object]]]:
@@ -92,10 +92,14 @@ class Drawing:
                     bad = fault
             while text.read(PIECE):
                 pass
-        if state_of(self.file) != self._state:
+        if self.input.is_changed:
             raise ToolError(CHANGED, Status.READ_FAULT)
         if bad or not first:
             raise ToolError(f"the text of `show` isn't as it should be: {bad or 'it is empty'}", Exit.FAILURE)
+
+    def close(self) -> None:
+        """Closes its files."""
+        self.input.close()
 
     def names(self) -> Names:
         """The names of layers, styles, linetypes, applications and blocks, by handle."""

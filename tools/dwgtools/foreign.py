@@ -3,7 +3,6 @@
 from __future__ import annotations
 
 import contextlib
-import os
 from typing import IO
 
 from .drawings import Drawing
@@ -32,6 +31,6 @@ def refuse_foreign(drawing: Drawing, is_said: bool = True) -> None:
         if bytes_of(drawing.file, len(OURS[0])) in OURS:
             return
         if is_said:
-            row.bytes = os.fstat(drawing.file.fileno()).st_size
+            row.bytes = drawing.size
             Looker(drawing.program).judge(drawing.file, row)
         raise ToolError(f"{drawing.name}: {row.verdict}: {row.detail}", Status.TOO_LONG if row.verdict == "too large" else Status.REFUSED)

@@ -30,9 +30,10 @@ from .streams import tell
 from .table import Progress
 from .tree_lines import Line, Made, TreeTable, line_of_row, losses_told
 from .tree_log import TreeLog
-from .trees import LOG_NAME, Planned, left_behind, opened_folder, planned, refuse_folders
+from .trees import LOG_NAME, Planned, Sources, left_behind, most_open, opened_folder, planned, refuse_folders, refuse_read
 from .verdicts import Checker
-from .walking import Files, nothing_found, walk_of
+from .versions import LIMIT
+from .walking import Files, nothing_found, status_of, walk_of
 
 # How many descriptors a recovery has open at the most.
 OPEN_BY_RECOVERY = 18
@@ -81,8 +82,9 @@ def digest_of(file: IO[bytes]) -> str:
     return found.hexdigest()
 
 
-def digest_at(spot: Spot, source: IO[bytes]) -> Optional[str]:
-    """The SHA-256 of what stands where an output is to stand; None where nothing does, and Refused where that is no regular file, or the input."""
+def digest_at(spot: Spot, source: IO[bytes], sources: Sources) -> Optional[str]:
+    """The SHA-256 of what stands where an output is to stand; None where nothing does, and Refused where that is no regular file, or the input, or
+    another of these that are read."""
     try:
         there = spot.there(spot.name)
         if there is None:
@@ -91,6 +93,8 @@ def digest_at(spot: Spot, source: IO[bytes]) -> Optional[str]:
             raise Refused(f"{spot.path} is no regular file")
         if os.path.samestat(there, os.fstat(source.fileno())):
             raise Refused(f"{spot.path} is the input itself")
+        if sources.has(there):
+            raise Refused(f"{spot.path} is a file that is read")
         handle = spot.opened()
     except (FileNotFoundError, NotADirectoryError):
         return None
@@ -100,18 +104,25 @@ def digest_at(spot: Spot, source: IO[bytes]) -> Optional[str]:
         # (no file has such a name)
         return None
     with os.fdopen(handle, "rb", buffering=0) as file:
-        return digest_of(file)
+        return digest_of(file) if there.st_size <= MOST_WRITTEN else NO_DIGEST
+
+
+# No output has more bytes: a drawing has LIMIT, and notes have a line for each entry of a map, which has two bytes. What is larger isn't read to its end.
+MOST_WRITTEN = 32 * LIMIT
+NO_DIGEST = "of no output"
 
 
 class Grower:
     """Recovers files into a tree. Several threads may do so at once."""
 
-    def __init__(self, program: Program, log: TreeLog, options: argparse.Namespace) -> None:
-        self.program, self.log, self.options = program, log, options
+    def __init__(self, program: Program, log: TreeLog, sources: Sources, options: argparse.Namespace) -> None:
+        self.program, self.log, self.sources, self.options = program, log, sources, options
         self.door = Door()
         self._locks = [threading.Lock() for _ in range(LOCKS)]
         # The folders whose lock another run kept as long as it is waited for.
         self._kept: Set[str] = set()
+        # What this run has written, by what it is: a file system may take names for one that differ.
+        self.written: Set[Tuple[int, int]] = set()
 
     def grown(self, one: Planned) -> Line:
         """The line of a file: whatever happens to it, there is one. It tells what stands below OUT of another state of the file, so that nobody takes
@@ -197,6 +208,7 @@ class Growing(Checker):
         """Has LOG keep what stands below OUT, and the line say it."""
         line.made = made
         self.tree.add(line)
+        self.tree.stands(line)
         self.say(line, made)
 
     def say(self, line: Line, made: Made) -> None:
@@ -204,12 +216,14 @@ class Growing(Checker):
         line.output = self.out
         if made.notes is not None:
             line.outcome = "recovered"
-            line.detail += f"; lost: {losses_told(made)}" if made.parts else ""
+            lost = losses_told(made)
+            line.detail += f"; lost: {lost}" if lost else ""
 
     def recover(self, file: IO[bytes], content: IO[bytes], line: Line) -> None:
         """Writes what is whole of a damaged drawing, and its notes, unless that stands."""
         known = self.tree.recovered_of(line.sha256)
-        if known is not None and (known.kept or self.grower.options.even_empty) and (digest_at(Spot(self.out), file), digest_at(Spot(self.notes), file)) == (known.sha256, known.notes):
+        is_wanted = known is not None and (known.kept or self.grower.options.even_empty)
+        if known is not None and is_wanted and (self.digest_at(Spot(self.out), file), self.digest_at(Spot(self.notes), file)) == (known.sha256, known.notes):
             self.stands(line, replace(known, output=self.one.name))
             return
         with self.folder() as at, self.begun(file, self.out, at) as whole, self.begun(file, self.notes, at) as notes:
@@ -225,20 +239,20 @@ class Growing(Checker):
         patience = Patience(verdicts.MOST_SECONDS, verdicts.MOST_TAKEN)
         answer = self.program.run(["recover"], from_begin(content), whole.file, patience, notes=notes.file)
         refuse_answer(answer, self.out)
-        told = told_by(answer, notes.file, self.one.path, self.out)
+        told = told_by(answer, notes.file, content, self.one.path, self.out)
         if told.refusal is None:
             raise ProgramFailed("`recover` and `audit` don't agree")
         findings = read_back(self.program, whole.file)
         parts = {sort: count for sort, count in told.lost.items() if count and sort != "object"}
         digests = digest_of(whole.file), digest_of(notes.file)
-        return Made(self.one.name, *digests, told.kept, told.lost["object"], told.found, findings, parts)
+        return Made(self.one.name, *digests, told.kept, told.lost["object"], told.found, findings, parts, told.is_map_whole)
 
     def copy(self, file: IO[bytes], content: IO[bytes], line: Line) -> None:
         """Writes a whole drawing as it is, with its times, unless it stands."""
         assert line.sha256 is not None
         made = Made(self.one.name, line.sha256)
         has_notes = self.has_own_notes(file, Spot(self.notes))
-        if digest_at(Spot(self.out), file) == line.sha256 and not has_notes:
+        if self.digest_at(Spot(self.out), file) == line.sha256 and not has_notes:
             self.stands(line, made)
             return
         with self.folder() as at, self.begun(file, self.out, at) as whole:
@@ -251,7 +265,11 @@ class Growing(Checker):
 
     def folder(self) -> ContextManager[int]:
         """The folder in which the outputs are to stand."""
-        return opened_folder(self.grower.options.tree, self.one)
+        return opened_folder(self.grower.options.tree, self.one, self.grower.sources)
+
+    def digest_at(self, spot: Spot, file: IO[bytes]) -> Optional[str]:
+        """The SHA-256 of what stands where an output of a file is to stand."""
+        return digest_at(spot, file, self.grower.sources)
 
     @staticmethod
     def begun(file: IO[bytes], path: str, folder: int) -> WholeFile:
@@ -267,7 +285,7 @@ class Growing(Checker):
     def has_own_notes(self, file: IO[bytes], notes: Spot) -> bool:
         """Whether the notes of an earlier run stand where those of this file would."""
         try:
-            there = digest_at(notes, file)
+            there = self.digest_at(notes, file)
         except Refused:
             return False
         if there is None:
@@ -279,26 +297,35 @@ class Growing(Checker):
     def place(self, file: IO[bytes], line: Line, made: Made, files: List[Tuple[WholeFile, str]], place: Callable[[], None]) -> None:
         """Gives outputs of such contents their names, where what is there may be replaced. LOG has them before, so that it knows them again whatever
         ends the run."""
-        self.may_replace(file, made, files)
+        self.may_replace(file, line, made, files)
         for whole, _ in reversed(files):
             whole.finish()
         with self.grower.alone(files[0][0]):
-            self.may_replace(file, made, files)
+            self.may_replace(file, line, made, files)
             line.made = made
             self.tree.add(line)
             place()
+            self.tree.stands(line)
+            for whole, _ in files:
+                told = whole.there(whole.name)
+                if told is not None:
+                    self.grower.written.add((told.st_dev, told.st_ino))
             self.say(line, made)
 
-    def may_replace(self, file: IO[bytes], made: Made, files: List[Tuple[WholeFile, str]]) -> None:
-        """Has outputs replace what is there, where that is of an earlier run and as it left it, or what is to be written; else Refused, unless forced.
-        What is whole, and perhaps the last that is, never gives way to what has losses."""
+    def may_replace(self, file: IO[bytes], line: Line, made: Made, files: List[Tuple[WholeFile, str]]) -> None:
+        """Has outputs replace what is there, where that is of an earlier run and of another content, and as it left it, or what is to be written; else
+        Refused, unless forced. What is whole, and perhaps the last that is, never gives way to what was recovered."""
         for whole, digest in files:
-            there, state = digest_at(whole, file), whole.there(whole.name)
+            there, state = self.digest_at(whole, file), whole.there(whole.name)
             if there is None or state is None:
                 continue
+            if (state.st_dev, state.st_ino) in self.grower.written:
+                raise Refused(f"{whole.path} is what this run has written of another file")
             name = self.one.name if whole.path == self.out else self.one.name + ".notes"
             if there != digest and not self.tree.is_own(name, there, self.one.path) and not self.grower.options.force:
                 raise Refused(f"{whole.path} is there already, and isn't what a run left there; --force replaces it")
+            if there != digest and self.tree.is_of(name, there, line.sha256) and not self.grower.options.force:
+                raise Refused(f"{whole.path} is of the same content, by another program; --force replaces it")
             if there != digest and self.tree.is_whole(name, there) and not made.is_whole and not self.grower.options.force:
                 raise Refused(f"{whole.path} is whole, and what is recovered isn't; --force replaces it")
             if os.path.samestat(state, self.tree.place):
@@ -379,15 +406,17 @@ def recover_tree(options: argparse.Namespace) -> int:
     if not plan:
         tell(nothing_found(walk_of(options), "recover"))
         return Exit.NOTHING_FOUND
+    sources, most = Sources(plan), most_open(options.files)
+    refuse_read(status_of(options.tree), options.tree, sources)
     try:
-        os.makedirs(options.tree, exist_ok=True)
+        os.makedirs(options.tree, most, exist_ok=True)
     except OSError as fault:
         raise ToolError(f"{one_line(options.tree)}: {fault.strerror}", Status.WRITE_FAULT) from None
-    log = TreeLog(os.path.join(options.tree, LOG_NAME), told)
+    log = TreeLog(os.path.join(options.tree, LOG_NAME), told, most & 0o666)
     try:
         log.begin(made_by)
         progress.begin(Files(plan))
-        table = grow_all(plan, Grower(program, log, options), progress, options)
+        table = grow_all(plan, Grower(program, log, sources, options), progress, options)
     finally:
         log.close()
     left = list(left_behind(plan, log.written(), options))

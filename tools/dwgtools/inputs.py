@@ -1,4 +1,4 @@
-"""Inputs: files that are read again and again, pipes that are kept, and that nobody changes them meanwhile."""
+"""Inputs: what files and pipes have, kept so that it is read again and again, whoever changes them meanwhile."""
 
 from __future__ import annotations
 
@@ -7,11 +7,12 @@ import io
 import os
 import stat
 import tempfile
+from dataclasses import dataclass
 from typing import IO, Iterator, Optional, Tuple
 
 from .statuses import Exit, Status, ToolError
 from .streams import Patient, input_name, is_standard
-from .temporary import of_temporary, temporary_told
+from .temporary import TemporaryFault, of_temporary, temporary_told
 from .versions import LIMIT
 
 
@@ -29,18 +30,68 @@ def opened(path: Optional[str]) -> Iterator[IO[bytes]]:
         raise ToolError(f"{input_name(path)}: {fault.strerror}", Status.READ_FAULT) from None
 
 
-def open_input(path: Optional[str]) -> IO[bytes]:
+@dataclass(frozen=True)
+class Input:
+    """What an input had when it was read, in a file that nobody else changes, however often that is read: no more than one byte more than the program
+    takes. `size` is how many bytes there were, `mode` that of a regular file; by `source`, one that is named, and its `state` it is seen that the input
+    is changed meanwhile."""
+
+    file: IO[bytes]
+    size: int
+    mode: Optional[int] = None
+    source: Optional[IO[bytes]] = None
+    state: Optional[Tuple[int, int]] = None
+
+    @property
+    def is_changed(self) -> bool:
+        """Whether its state isn't the one that it had before it was read."""
+        return self.source is not None and state_of(self.source) != self.state
+
+    def close(self) -> None:
+        """Closes it."""
+        self.file.close()
+        if self.source is not None:
+            self.source.close()
+
+
+def open_input(path: Optional[str]) -> Input:
     """An input that can be read again and again."""
     with opened(path) as file:
-        return kept(file)
+        return input_of(file)
+
+
+def input_of(file: IO[bytes], begin: bytes = b"") -> Input:
+    """An open input, of which the begin is read."""
+    told, state = os.fstat(file.fileno()), state_of(file)
+    mode = stat.S_IMODE(told.st_mode) if stat.S_ISREG(told.st_mode) else None
+    found = kept(file, begin)
+    if is_named_file(file):
+        return Input(found, told.st_size, mode, again(file), state)
+    return Input(found, os.fstat(found.fileno()).st_size, mode)
+
+
+def own_file(file: IO[bytes]) -> Input:
+    """A file that the tool has made, as an input."""
+    return Input(file, os.fstat(file.fileno()).st_size, source=file, state=state_of(file))
+
+
+def again(file: IO[bytes]) -> IO[bytes]:
+    """An open file that stays open where it is closed."""
+    return os.fdopen(os.dup(file.fileno()), "rb")
+
+
+def is_named_file(file: IO[bytes]) -> bool:
+    """Whether an input is a regular file, and all of it: of standard input only what comes is."""
+    return file.fileno() != 0 and stat.S_ISREG(os.fstat(file.fileno()).st_mode)
 
 
 def kept(file: IO[bytes], begin: bytes = b"") -> IO[bytes]:
-    """An input, of which the begin is read, as a file that can be read again and again: a regular file, or what a pipe gives, in a file without
-    a name, or else TemporaryFault. Of a pipe no more is kept than one byte more than the program takes."""
-    if file.fileno() and stat.S_ISREG(os.fstat(file.fileno()).st_mode):
-        os.lseek(file.fileno(), 0, os.SEEK_SET)
-        return os.fdopen(os.dup(file.fileno()), "rb")
+    """An input, of which the begin is read, in a file without a name, or else TemporaryFault: no more than one byte more than the program takes. A
+    regular file of which no copy can be kept is read itself, and is refused where its size or time changes."""
+    if is_named_file(file):
+        with contextlib.suppress(TemporaryFault):
+            return copy_of(file, LIMIT + 1)
+        return from_begin(again(file))
     with of_temporary():
         found = tempfile.TemporaryFile()
     left, piece = LIMIT + 1, begin or file.read(1 << 20)
@@ -52,6 +103,26 @@ def kept(file: IO[bytes], begin: bytes = b"") -> IO[bytes]:
     with of_temporary():
         found.seek(0)
     return found
+
+
+def copy_of(file: IO[bytes], most: int) -> IO[bytes]:
+    """What a regular file begins with, in a file that nobody else can change, or else TemporaryFault."""
+    found = private_file()
+    try:
+        for piece in pieces_of(file, most):
+            with of_temporary():
+                put(found, piece)
+        return from_begin(found)
+    except BaseException:
+        found.close()
+        raise
+
+
+def put(file: IO[bytes], piece: bytes) -> None:
+    """Adds all of a piece to a file without a buffer."""
+    left = memoryview(piece)
+    while left:
+        left = left[os.write(file.fileno(), left) :]
 
 
 def private_file() -> IO[bytes]:

@@ -2,21 +2,12 @@
 
 from __future__ import annotations
 
-import argparse
-import re
 import resource
 
 MOST_JOBS = 1000
 
 # How many descriptors the tool itself has open at the most.
 OPEN_BY_TOOL = 32
-
-
-def count_of(word: str) -> int:
-    """How many files a word of the command line says."""
-    if not re.fullmatch("[0-9]{1,4}", word) or not 1 <= int(word) <= MOST_JOBS:
-        raise argparse.ArgumentTypeError(f"{word!r} is no number from 1 to {MOST_JOBS}")
-    return int(word)
 
 
 def most_at_once(open_by_one: int, pipes: int = 0) -> int:

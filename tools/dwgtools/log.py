@@ -7,7 +7,6 @@ import contextlib
 import errno
 import fcntl
 import hashlib
-import json
 import os
 import re
 import stat
@@ -19,6 +18,7 @@ from .arguments import commit
 from .escapes import one_line
 from .file import Picture, Preview
 from .inputs import pieces_of
+from .log_lines import HEAD, LONGEST, MOST_NUMBER, Maker, NoLine, is_begin_of_log, is_number, line_of_log, take_lines
 from .notes import Refusal
 from .program import program_file
 from .rows import RULES, VERDICTS, Row, as_object
@@ -33,13 +33,15 @@ Key = Tuple[str, int, int]
 # The detail of a file that isn't there: one that LOG knows is gone.
 GONE = os.strerror(errno.ENOENT)
 
-# What the first line of LOG is, and any that another program begins.
-HEAD = {"log": "dwg-check", "form": 1}
+# And those of names that nothing ever had.
+NO_FOLDER = os.strerror(errno.ENOTDIR)
+NOTHING_THERE = {GONE, NO_FOLDER, os.strerror(errno.ENAMETOOLONG)}
 
-# No line of LOG is longer: a path has 4,096 bytes, each six letters of JSON at the most, and stands in it twice.
-LONGEST = 1 << 17
-# Where one is damaged so that it is longer than this, the file isn't read to its end.
-ENDLESS = 1 << 27
+# By what LOG can't be written, though it could be opened: what is found is told all the same.
+FULL = (errno.ENOSPC, errno.EDQUOT, errno.EIO, errno.EFBIG)
+
+# What is said of a file whose name was another before than after it was read.
+LED_ELSEWHERE = "its name led to another file while it was read"
 
 # How often LOG is read at the most, by its size, to see whether it still stands: who touches it all the time doesn't hold the run up.
 MOST_LOOKS = 8
@@ -48,8 +50,7 @@ MOST_LOOKS = 8
 TEXTS = ("path", "verdict", "detail", "version", "absolute")
 NUMBERS = ("findings", "bytes", "trailing", "mtime_ns")
 
-# What numbers of LOG are at the most: those of a file system have 64 bits, and so have the seconds of a time, before 1970 below 0.
-MOST_NUMBER = (1 << 63) - 1
+# The seconds of a time have 64 bits too, before 1970 below 0.
 LEAST = {"mtime_ns": -(10**9 << 63)}
 MOST = {"mtime_ns": 10**9 << 63}
 # What a SHA-256 and a version look like there.
@@ -59,10 +60,16 @@ DIGEST, VERSION_TOLD = re.compile("[0-9a-f]{64}"), re.compile("(?:AC[0-9]{4})?")
 WHOLE = ("sound", "unsound", "trailing bytes")
 
 
+# No system finds a file by a name of more bytes.
+MOST_NAME = 4095
+
+
 def absolute_name(path: str) -> str:
     """The whole name of a file, whatever links lead to it: `link/../plan.dwg` stands beside what the link leads to, and /dev/stdin is
     another file each time. Where the folder that it begins in is gone, or no file can have the name, the name itself; where more links
     lead on than Python follows, and any system, the name in that folder."""
+    if len(path) > MOST_NAME:
+        return path
     try:
         return os.path.realpath(path)
     except RecursionError:
@@ -78,6 +85,23 @@ def spelled_name(path: str) -> str:
     begin = os.sep if path.startswith(os.sep) else os.curdir
     cut = ups[-1] + 1 if ups else 0
     return os.path.join(absolute_name(os.path.join(begin, *parts[:cut])), *parts[cut:])
+
+
+def link_of(path: str, name: str) -> Optional[str]:
+    """The whole name by which a path leads to the file that LOG has by another one; None where no link leads there."""
+    spelled = spelled_name(path)
+    return spelled if spelled != name and absolute_name(path) != spelled else None
+
+
+class Links(Dict[str, str]):
+    """Names that lead to files by links, each with the name by which LOG had the file when it took it last."""
+
+    def take(self, told: Dict[str, Any]) -> None:
+        """Takes a line of LOG. What is a file by its own name is none beyond a link any more."""
+        if told.get("link") is None:
+            self.pop(told["absolute"], None)
+        else:
+            self[told["link"]] = told["absolute"]
 
 
 def is_gone(path: str) -> bool:
@@ -124,14 +148,31 @@ class Forgotten(Row):
 
 
 class Contents(Dict[str, Row]):
-    """What LOG has of the content of each file, by its whole name: the last one that it wasn't found to have changed to by itself."""
+    """What LOG has of the content of each file, by its whole name: the last one that it wasn't found to have changed to by itself; and the lines of
+    files of which it has none."""
+
+    def __init__(self) -> None:
+        super().__init__()
+        self.without: Dict[str, Row] = {}
 
     def take(self, absolute: str, row: Row) -> None:
         """Takes a line of LOG."""
         if isinstance(row, Forgotten):
-            self.pop(absolute, None)
+            self.forget(absolute)
         elif row.sha256 is not None and row.bytes is not None and row.verdict != "changed":
             self[absolute] = row
+            self.without.pop(absolute, None)
+        elif absolute not in self and row.detail not in NOTHING_THERE:
+            self.without[absolute] = row
+
+    def has(self, absolute: str) -> bool:
+        """Whether it has anything of a file."""
+        return absolute in self or absolute in self.without
+
+    def forget(self, absolute: str) -> None:
+        """Has nothing of a file any more."""
+        self.pop(absolute, None)
+        self.without.pop(absolute, None)
 
 
 def content_of(row: Row) -> Tuple[Optional[str], Optional[int]]:
@@ -146,42 +187,6 @@ def is_among(name: str, tops: Set[str]) -> bool:
         if name == below:
             return False
     return True
-
-
-class NoLine(Exception):
-    """A line that is none of LOG."""
-
-
-def read_log_line(line: bytes) -> Dict[str, Any]:
-    """The object of a line of LOG."""
-    try:
-        told = json.loads(line)
-    except (ValueError, RecursionError):
-        raise NoLine from None
-    if not isinstance(told, dict):
-        raise NoLine
-    return told
-
-
-def is_number(value: Any, most: int = MOST_NUMBER, least: int = 0) -> bool:
-    """Whether a value of JSON is a number without a fraction that can be told of a file."""
-    return isinstance(value, int) and not isinstance(value, bool) and least <= value <= most
-
-
-@dataclass(frozen=True)
-class Maker:
-    """By what lines of LOG were made: the program, by the SHA-256 of its file, and the number of the rules, which older tools didn't tell."""
-
-    program: str
-    rules: Optional[int]
-
-
-def maker_of_head(told: Dict[str, Any]) -> Optional[Maker]:
-    """By what the lines after a head of LOG are made; None where it is no head."""
-    program, rules = told.get("program"), told.get("rules")
-    if {name: told.get(name) for name in HEAD} != HEAD or not isinstance(program, str):
-        return None
-    return Maker(program, rules if is_number(rules) else None)
 
 
 def read_refusal(told: Any) -> Optional[Refusal]:
@@ -232,6 +237,8 @@ def read_row(told: Dict[str, Any]) -> Tuple[str, Row]:
     if not all(isinstance(told.get(name), str) for name in TEXTS) or told["verdict"] not in VERDICTS or not VERSION_TOLD.fullmatch(told["version"]):
         raise NoLine
     if not is_name(told["path"]) or not is_name(told["absolute"]):
+        raise NoLine
+    if told.get("link") is not None and not (isinstance(told["link"], str) and is_name(told["link"])):
         raise NoLine
     if not (digest is None or isinstance(digest, str) and DIGEST.fullmatch(digest)):
         raise NoLine
@@ -307,9 +314,9 @@ class Seen:
 
 
 class Log:
-    """The file that keeps finished lines, one JSON object each, after a head. One run at a time writes into it."""
+    """The file that keeps finished lines, one JSON object each, after a head. One run at a time writes into it. A new one has a mode at the most."""
 
-    def __init__(self, path: str, tell_fault: Callable[[str], None]) -> None:
+    def __init__(self, path: str, tell_fault: Callable[[str], None], mode: int = 0o666) -> None:
         self.name, self.fault = one_line(path), ""
         self._path, self._tell = path, tell_fault
         self._known: Dict[Key, Row] = {}
@@ -321,18 +328,20 @@ class Log:
         self._contents: Dict[str, Row] = {}
         self._unreadable: Set[Tuple[str, str]] = set()
         # What LOG had when the run began; what was found under names that it didn't have, and which of its own weren't there, though they were named.
-        self._before = Contents()
+        self._before, self._links = Contents(), Links()
         self._names: Set[str] = set()
         self._places = Places(self._names)
-        self._new: List[Row] = []
+        self._new: Dict[str, Row] = {}
         self._missed: List[str] = []
+        # Files of LOG that have another content than it had, and not by themselves.
+        self.others: Set[str] = set()
         self._lock = threading.Lock()
         # (nothing before all is read)
         self._seen: Optional[Seen] = None
         if is_called_drawing(path) or is_called_drawing(absolute_name(path)):
             raise ToolError(f"{self.name} is called as a drawing is, and no log is: was LOG forgotten?", Exit.EXISTS)
         try:
-            self._file = open_log(path)
+            self._file = open_log(path, mode=mode)
             self.place = os.fstat(self._file.fileno())
             refuse_file(self._file, self.name, fcntl.LOCK_EX)
         except OSError as fault:
@@ -344,23 +353,28 @@ class Log:
         return os.path.islink(self._path)
 
     def begin(self, program: str) -> None:
-        """Reads what LOG has, and writes a head where what comes is made by another program, or by other rules, than what is there."""
+        """Reads what LOG has, and writes a head where what comes is made by another program, or by other rules, than what is there, or nothing there
+        has a sum. Where there is no room for that it is told, and nothing is added."""
         own, seen = Maker(program, RULES), Seen(self._file)
         self._file.seek(0)
-        last, is_ended = take_lines(seen.readline, lambda told, maker: self.take_line(told, maker == own), self.name, self._tell)
+        read = take_lines(seen.readline, lambda told, maker: self.take_line(told, maker == own), self.name, self._tell)
         self._seen = seen
         self._places = Places(self._names)
         try:
-            if not is_ended:
-                self._append(b"\n")
-            if last != own:
-                self._append(json.dumps({**HEAD, **asdict(own), "tools": commit() or None}).encode("ascii") + b"\n")
+            if not read.is_ended:
+                self._append(b"")
+            if read.maker != own or not read.is_summed:
+                self._append(line_of_log({**HEAD, **asdict(own), "tools": commit() or None}))
         except OSError as fault:
-            raise ToolError(f"{self.name}: {fault.strerror}", Exit.FAILURE) from None
+            if fault.errno not in FULL:
+                raise ToolError(f"{self.name}: {fault.strerror}", Exit.FAILURE) from None
+            self.fault = str(fault.strerror)
+            self._tell_fault()
 
     def take_line(self, told: Dict[str, Any], is_current: bool) -> None:
         """Takes a line that is no head, made by this program and these rules or by others; NoLine where it isn't as it should be."""
         self._take(*read_row(told), is_current)
+        self._links.take(told)
 
     def _take(self, absolute: str, row: Row, is_current: bool) -> None:
         """Knows a file again; what it is found to be counts only where this program found it, by these rules."""
@@ -373,20 +387,34 @@ class Log:
                 self._current.discard(key)
         if row.verdict == "unreadable":
             self._unreadable.add((absolute, row.detail))
-        elif row.bytes is not None and row.mtime_ns is not None:
-            key = (absolute, row.bytes, row.mtime_ns)
+        elif row.bytes is not None:
+            key = (absolute, row.bytes, row.mtime_ns or 0)
+            self._latest[absolute] = key
             # (one that was gone is there again)
             self._unreadable.discard((absolute, GONE))
-            if key not in self._known:
-                self._keys.setdefault(absolute, []).append(key)
-            self._known[key], self._latest[absolute] = row, key
-            if row.sha256 and row.verdict != "changed":
-                self._first.setdefault(key, row.sha256)
-            self._current.discard(key)
-            if is_current:
-                self._current.add(key)
+            if row.mtime_ns is not None:
+                self._take_key(key, row, is_current)
             if is_current and row.sha256 and row.verdict != "changed":
                 self._contents[row.sha256] = row
+
+    def _take_key(self, key: Key, row: Row, is_current: bool) -> None:
+        """Knows a file again by its size and time, unless it was read while these could stay the same."""
+        if key not in self._known:
+            self._keys.setdefault(key[0], []).append(key)
+        self._known[key] = row
+        if row.sha256 and row.verdict != "changed":
+            self._first.setdefault(key, row.sha256)
+        self._current.discard(key)
+        if is_current:
+            self._current.add(key)
+
+    def name_of(self, path: str) -> str:
+        """The name under which LOG has a file, or would have it."""
+        return self._places.name_of(path)
+
+    def has_digest(self, path: str) -> bool:
+        """Whether LOG had the SHA-256 of a file when the run began, whatever that was then."""
+        return self._places.name_of(path) in self._before
 
     def of_content(self, digest: str) -> Optional[Row]:
         """What a content is found to be by this program."""
@@ -404,80 +432,116 @@ class Log:
         if known is None or known.verdict == "changed":
             return None
         row = replace(known, path=path)
-        if self._latest[key[0]] != key:
+        self._see_other(key[0], row)
+        if self._latest[key[0]] != key or not self._has_link(path, key[0]):
             # (it was another meanwhile, which LOG would have of it)
             self.add_line(key[0], row)
             self._latest[key[0]] = key
         return row
 
-    def moved(self) -> List[str]:
-        """The whole names of files that aren't there any more, of each of which the content was found under a new name."""
-        left, found = collections.Counter(map(content_of, self._new)), []
-        for name in sorted(name for name, row in self._before.items() if left and content_of(row) in left):
-            content = content_of(self._before[name])
-            if left[content] and is_gone(name):
+    def _see_other(self, name: str, row: Row) -> None:
+        """Takes note of a file that has another content than LOG had last, and not by itself."""
+        if name in self._before and row.sha256 and content_of(row) != content_of(self._before[name]):
+            self.others.add(name)
+
+    def _has_link(self, path: str, name: str) -> bool:
+        """Whether LOG has it that a path leads to a file, where it does so by a link."""
+        link = link_of(path, name)
+        return link is None or self._links.get(link) == name
+
+    def moved(self, gone: Iterable[str]) -> List[str]:
+        """Those of the files that are gone, of each of which the content was found under a new name."""
+        left, found = collections.Counter(map(content_of, self._new.values())), []
+        for name in gone:
+            content = content_of(self._before[name]) if name in self._before else None
+            if content is not None and left[content]:
                 left[content] -= 1
                 found.append(name)
         return found
 
     def gone(self, words: Iterable[str]) -> List[str]:
-        """The whole names of files that aren't there any more, which the words named or which stand below these, in their order."""
-        tops = {name for word in words for name in (absolute_name(word), spelled_name(word))} | {*self._missed}
+        """The whole names of files that aren't there any more, and of links to files that are, which the words named or which stand below these, in
+        their order; and of files that aren't there any more to which such links led."""
+        tops = {name for word in filter(None, words) for name in (absolute_name(word), spelled_name(word))} | {*self._missed}
+        names = {*self._before, *self._before.without, *self._links}
         # (many files stand in one folder)
-        folders = {folder for folder in {os.path.dirname(name) for name in self._before} if is_among(folder, tops) or is_among(absolute_name(folder), tops)}
-        return sorted(name for name in self._before if (name in tops or os.path.dirname(name) in folders) and is_gone(name))
+        folders = {folder for folder in {os.path.dirname(name) for name in names} if is_among(folder, tops) or is_among(absolute_name(folder), tops)}
+        found = {name for name in names if (name in tops or os.path.dirname(name) in folders) and is_gone(name)}
+        files = {self._links.get(name, name) for name in found}
+        return sorted({name for name in files if is_gone(name)} | {name for name in found if not is_gone(self._links.get(name, name))})
 
     def forget(self, names: Iterable[str]) -> None:
-        """Has LOG have files no more."""
-        for name in names:
-            del self._before[name]
+        """Has LOG have files no more, nor links that led to them."""
+        all_names = {*names}
+        links = {link for link, name in self._links.items() if name in all_names and is_gone(link)}
+        for name in sorted(all_names | links):
+            self._before.forget(name)
             self.add_line(name, Forgotten(name, "unreadable", GONE))
 
-    def kept(self, row: Row) -> Row:
-        """The line of a file that was looked at, kept in LOG: `changed` where its first content of this size and time was another."""
+    def kept(self, row: Row, before: Optional[str] = None) -> Row:
+        """The line of a file that was looked at, kept in LOG: `changed` where its first content of this size and time was another. Of one whose name
+        before that was another nobody knows which file it is of."""
         if row.verdict == "failed" and not row.lasting:
             return row
         absolute = self._places.name_of(row.path)
-        if absolute not in self._before:
-            self._new.append(row)
-        elif row.verdict == "unreadable" and row.detail == GONE:
-            # (LOG forgets nothing by itself)
-            self._missed.append(absolute)
-            return row
+        if before is not None and before != absolute:
+            return Row(row.path, "failed", LED_ELSEWHERE)
+        if row.verdict == "unreadable" and row.detail in (GONE, NO_FOLDER) and row.path:
+            if self._before.has(absolute) or absolute in self._links:
+                # (LOG forgets nothing by itself)
+                self._missed.append(absolute)
+                return row
+            # (it may have been a folder, and what a link led to is none of the words)
+            if is_gone(row.path):
+                self._missed.append(spelled_name(row.path))
         key = (absolute, row.bytes or 0, row.mtime_ns or 0)
         old = self._known.get(key)
         first = self._first.get(key, "" if old and old.verdict == "changed" else row.sha256)
         if old and row.sha256 and row.sha256 != first:
             row = replace(row, verdict="changed", detail=f"{row.verdict}: {row.detail}" if row.detail else row.verdict)
+        else:
+            self._see_other(absolute, row)
         is_there = key in self._current and old is not None and old.sha256 == row.sha256 and (absolute, GONE) not in self._unreadable
-        is_there = is_there and self._latest[absolute] == key
+        is_there = is_there and self._latest[absolute] == key and self._has_link(row.path, absolute)
         if not is_there and not (row.verdict == "unreadable" and (absolute, row.detail) in self._unreadable):
-            self.add_line(absolute, row)
+            is_there = self.add_line(absolute, row)
             if row.bytes is not None:
                 self._latest[absolute] = key
+        # (what LOG doesn't have takes the place of nothing)
+        if is_there and absolute not in self._before:
+            self._new[absolute] = row
         return row
 
-    def add_line(self, absolute: str, row: Row) -> None:
-        """Adds a line; where that fails it is told at once, and nothing more is added."""
+    def add_line(self, absolute: str, row: Row) -> bool:
+        """Adds a line; where that fails it is told at once, and nothing more is added. Whether LOG has it."""
         # (what no file can be called would be a damaged line)
-        if not is_name(row.path):
-            return
-        more = {"forgotten": True} if isinstance(row, Forgotten) else {}
-        line = json.dumps({**as_object(row), "absolute": absolute, **more}).encode("ascii") + b"\n"
+        if not is_name(row.path) or len(row.path) > MOST_NAME:
+            return False
+        told: Dict[str, Any] = {**as_object(row if row.settled else replace(row, mtime_ns=None)), "absolute": absolute}
+        link = link_of(row.path, absolute)
+        if link is not None:
+            told["link"] = link
+        if isinstance(row, Forgotten):
+            told["forgotten"] = True
+        line = line_of_log(told)
         if len(line) > LONGEST:
             self._tell(f"{self.name}: a line of more than {LONGEST} bytes isn't kept, that of {one_line(row.path)}")
-            return
+            return False
         with self._lock:
-            if self.fault:
-                return
+            if self.fault or not self._stands(is_end=False):
+                return False
             try:
-                if not self._stands(is_end=False):
-                    return
                 self._append(line)
+                self._links.take(told)
+                return True
             except OSError as fault:
                 self.fault = str(fault.strerror)
-        if self.fault:
-            self._tell(f"{self.name}: {self.fault}; what is finished from now on isn't kept")
+        self._tell_fault()
+        return False
+
+    def _tell_fault(self) -> None:
+        """Tells that nothing more is added."""
+        self._tell(f"{self.name}: {self.fault}; what is finished from now on isn't kept")
 
     def _append(self, line: bytes) -> None:
         """Adds a line whole, or leaves LOG as it was. What another has added without an end of line gets one, so that no line is joined to it."""
@@ -534,59 +598,16 @@ def refuse_file(file: IO[bytes], name: str, lock: int) -> None:
     except OSError as fault:
         tell(f"{name} can't be locked ({fault.strerror}); let no other run write into it")
     first = file.readline(LONGEST)
-    try:
-        if first and (not first.endswith(b"\n") or maker_of_head(read_log_line(first)) is None):
-            raise NoLine
-    except NoLine:
-        raise ToolError(f"{name} is there, and doesn't begin as a log of this form does; name a file that isn't there", Exit.EXISTS) from None
+    if first and not is_begin_of_log(first):
+        raise ToolError(f"{name} is there, and doesn't begin as a log of this form does; name a file that isn't there", Exit.EXISTS)
 
 
-def open_log(path: str, is_only_read: bool = False) -> IO[bytes]:
+def open_log(path: str, is_only_read: bool = False, mode: int = 0o666) -> IO[bytes]:
     """Opens LOG to read it, and else to add to it. What isn't a regular file isn't opened."""
     if os.path.exists(path) and not os.path.isfile(path):
         raise ToolError(f"{one_line(path)} is no regular file", Exit.EXISTS)
     flags = os.O_RDONLY if is_only_read else os.O_RDWR | os.O_APPEND | os.O_CREAT
-    return os.fdopen(os.open(path, flags | os.O_NONBLOCK | os.O_CLOEXEC, 0o666), "rb" if is_only_read else "r+b")
-
-
-def lines_of_log(readline: Callable[[int], bytes]) -> Iterator[bytes]:
-    """The lines of LOG, of one that is too long its begin and its end alone; one that has no end is refused."""
-    while True:
-        line = readline(LONGEST)
-        if not line:
-            return
-        size = len(line)
-        while size >= LONGEST and not line.endswith(b"\n"):
-            more = readline(LONGEST)
-            line, size = line[:LONGEST] + more[-1:], size + len(more)
-            if not more:
-                break
-            if size > ENDLESS:
-                raise ToolError(f"LOG has a line of more than {ENDLESS} bytes; name another file", Exit.EXISTS)
-        yield line
-
-
-def take_lines(
-    readline: Callable[[int], bytes], take: Callable[[Dict[str, Any], Optional[Maker]], None], name: str, tell_fault: Callable[[str], None]
-) -> Tuple[Optional[Maker], bool]:
-    """Hands on each line of LOG that is no head, with by what it was made; damaged ones are passed, which is told. By what the last lines are made,
-    and whether the very last is whole."""
-    last: Optional[Maker] = None
-    damaged: List[int] = []
-    line = b"\n"
-    for number, line in enumerate(lines_of_log(readline), 1):
-        try:
-            told = read_log_line(line)
-            head = maker_of_head(told)
-            last = last if head is None else head
-            if head is None:
-                take(told, last)
-        except NoLine:
-            damaged.append(number)
-    if damaged:
-        first = f"{len(damaged)} damaged lines are" if len(damaged) > 1 else "a damaged line is"
-        tell_fault(f"{name}: {first} passed, the first is line {damaged[0]}")
-    return last, line.endswith(b"\n")
+    return os.fdopen(os.open(path, flags | os.O_NONBLOCK | os.O_CLOEXEC, mode), "rb" if is_only_read else "r+b")
 
 
 def digest_of_program(path: str) -> str:

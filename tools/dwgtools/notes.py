@@ -114,6 +114,8 @@ class Recovery:
         # How many losses there are of each sort, and how many objects were found without an entry of the map.
         self.lost: Dict[str, int] = dict.fromkeys(LOSSES, 0)
         self.found = 0
+        # Whether all entries of the map are known, which the file tells too.
+        self.is_map_whole = False
 
     def lines(self) -> Iterator[bytes]:
         """The lines of the notes, one after the other: who takes them takes none elsewhere meanwhile."""

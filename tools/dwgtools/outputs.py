@@ -133,10 +133,11 @@ class WholeFile(Spot):
     Used as a context; `file` is where to write. Unless `force`, a file that has the name meanwhile is left, with FileExistsError;
     with it a regular file is replaced, and keeps its mode and its owner, and what is no regular file is left.
     All of it is in the folder that was opened first, at `at`, wherever that is moved; no whole name is made by text. That may be given open.
-    It never has other permissions than `most`. With `times`, those of access and of the last change, it has these.
+    It never has other permissions than `most`, and a new one none but those of `new`. With `times`, those of access and of the last change, it has these.
     """
 
     file: IO[bytes]
+    new: int = 0o666
     times: Optional[Tuple[int, int]] = None
 
     def __init__(self, path: str, force: bool = False, folder: Optional[int] = None, most: int = 0o777) -> None:
@@ -177,7 +178,7 @@ class WholeFile(Spot):
         if old:
             with contextlib.suppress(OSError):
                 os.fchown(handle, old.st_uid, old.st_gid)
-        os.fchmod(handle, (old.st_mode if old else 0o666 & ~mask_of_modes()) & self.most)
+        os.fchmod(handle, (old.st_mode if old else self.new & ~mask_of_modes()) & self.most)
         if self.times is not None:
             # (a file system that can't have them has the file all the same)
             with contextlib.suppress(OSError):

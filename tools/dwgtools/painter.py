@@ -21,6 +21,8 @@ MOST_STRETCHED, PART_STRETCHED = 100_000, 4
 LONGEST_NUMBER, LONGEST_MOVED, LONGEST_TURNED, LONGEST_GROUP = 16, 80, 160, 60
 # How many bytes a line without ends has at the most, with a group of its own.
 LONGEST_CUT = 200
+# How many definitions are looked at in all for what needs them, once something was told in vain. What would need more isn't drawn.
+MOST_SOUGHT = 1 << 22
 # How many bytes of the definition of a block are held in memory.
 IN_MEMORY = 1 << 20
 
@@ -182,6 +184,7 @@ class Painter:
         self.sizes: Dict[Defined, Size] = {}
         self.too_large: Set[Defined] = set()
         self.ends: Dict[Defined, int] = {}
+        self.sought = 0
         # The runs that are defined anew, of how many parts and bytes these are, and whether there were too many.
         self.anew: Set[Defined] = set()
         self.parts_anew = self.bytes_anew = 0
@@ -282,7 +285,8 @@ class Painter:
             size = self.room.left + 1
         while rest and size <= self.room.left:
             one = rest.pop()
-            if one in self.too_large:
+            self.sought += 1
+            if one in self.too_large or self.sought > MOST_SOUGHT:
                 size = self.room.left + 1
             elif one not in met and one not in self.names:
                 met.add(one)

@@ -66,6 +66,7 @@ class Reader:
         self.runs_by_block: Dict[Tuple[int, int, bool], List[Run]] = {}
         self.sums: Dict[Tuple[int, int], Tuple[int, float]] = {}
         self.known: Dict[int, Insert] = {}
+        self.attributes: Dict[int, List[Item]] = {}
         self.members: Dict[int, List[Union[Object, Drawn]]] = {}
         self.missed: Set[Tuple[int, str]] = set()
         # The blocks that are being read, one in the other, and how much the inserts of the picture and of each of these draw.
@@ -187,8 +188,14 @@ class Reader:
         return self.sums[key]
 
     def attached(self, one: Object, setting: Setting, grid: Grid) -> Iterator[Item]:
-        """The attributes of an insert."""
-        items = [item for attached in self.stock.attributes.get(one.handle, []) for item in self.items(attached, setting)]
+        """The attributes of an insert, which are read once where it may be drawn to more than one depth."""
+        items = self.attributes.get(one.handle)
+        if items is None:
+            items = [item for attached in self.stock.attributes.get(one.handle, []) for item in self.items(attached, setting)]
+            if setting.inside and self.is_read_again:
+                self.attributes[one.handle] = items
+        else:
+            self.drawn[-1] += len(items)
         self.charge((grid.copies() - 1) * len(items))
         if items:
             yield Copies([item for item in items if isinstance(item, Drawn)], grid)

@@ -8,7 +8,7 @@ from typing import IO, Any, Dict, List, Optional, Tuple
 
 from .drawings import Drawing
 from .file import PREVIEW_PLACE, entries_of_preview, little
-from .inputs import from_begin, pieces_of, refuse_changed, state_of
+from .inputs import CHANGED, from_begin, pieces_of
 from .program import at_once
 from .statuses import Exit, Status, ToolError
 from .versions import LIMIT, MOST_HEADER
@@ -69,7 +69,6 @@ def refuse_header(drawing: Drawing) -> None:
 
 def picture_of(drawing: Drawing, number: Optional[int]) -> bytes:
     """The file of a picture of a drawing, of which the header alone must be whole: that of a number, else the first that is one of a known kind."""
-    before = state_of(drawing.file)
     refuse_header(drawing)
     section = section_of(drawing.file)
     entries = section.entries if section else []
@@ -78,7 +77,8 @@ def picture_of(drawing: Drawing, number: Optional[int]) -> bytes:
         which = "" if number is None or not entries else f" {number}, but {len(entries)} in all"
         raise ToolError(f"{drawing.name}: it has no preview picture{which}", Exit.NOTHING_FOUND)
     data = bytes_at(drawing.file, chosen[0].place, chosen[0].size)
-    refuse_changed(drawing.file, before, drawing.name)
+    if drawing.input.is_changed:
+        raise ToolError(f"{drawing.name}: {CHANGED}", Status.READ_FAULT)
     if chosen[0].kind != "BMP":
         return data
     found = bitmap_file(data)

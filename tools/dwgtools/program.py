@@ -160,7 +160,7 @@ class Program:
         stdin = subprocess.PIPE if given is not None else subprocess.DEVNULL if source is None else source
         stdout, stderr = (subprocess.PIPE if file is None else file for file in (output, notes))
         with self._started(words, stdin, stdout, stderr) as ran:
-            watch = Watch(words[0], source, ran.pid, output, notes, patience)
+            watch = Watch(words[0], source, ran.pid, output, notes, patience, self.besides)
             out, said = watch.exchanged(ran, given or b"")
         if notes is not None:
             notes.seek(0)
@@ -171,7 +171,7 @@ class Program:
         """Runs the program and counts the lines of its output, of which no more than a piece is held."""
         with _file_of_notes() as notes, self._started(words, source, subprocess.PIPE, notes) as ran:
             assert ran.stdout is not None
-            watch = Watch(words[0], source, ran.pid, notes=notes)
+            watch = Watch(words[0], source, ran.pid, notes=notes, besides=self.besides)
             lines = lines_told(watch.passed(ran.stdout.fileno(), lambda: ran.poll() is not None))
             notes.seek(0)
             said = notes.read(MOST_NOTES)
@@ -182,7 +182,7 @@ class Program:
         """The output while the program runs; what it notes goes to a file, and status 3 and above is ToolError after its end."""
         with _file_of_notes() as notes, self._started(words, source, subprocess.PIPE, notes) as ran:
             assert ran.stdout is not None
-            watch = Watch(words[0], source, ran.pid, notes=notes)
+            watch = Watch(words[0], source, ran.pid, notes=notes, besides=self.besides)
             yield buffered(watch.passed(ran.stdout.fileno(), lambda: ran.poll() is not None))
             ran.stdout.close()
             watch.await_end(lambda: ran.poll() is not None)
@@ -230,6 +230,9 @@ class Program:
                         raise ProgramFailed(str(fault.strerror)) from None
             time.sleep(0.02)
 
+    def besides(self) -> None:
+        """What is looked at besides as long as a run goes on."""
+
     @property
     def is_stopped(self) -> bool:
         """Whether no run can begin any more."""
@@ -268,8 +271,9 @@ class Watch:
         output: Optional[IO[bytes]] = None,
         notes: Optional[IO[bytes]] = None,
         patience: Optional[Patience] = None,
+        besides: Callable[[], None] = lambda: None,
     ) -> None:
-        self.command, self.number, self.patience = command, number, patience
+        self.command, self.number, self.patience, self._besides = command, number, patience, besides
         given = size_of(source)
         self._most, self._most_noted = EACH.get(command, 0) * given, EACH_NOTED.get(command, 0) * given
         self._files = [(file, MOST_PASSED + most) for file, most in ((output, self._most), (notes, self._most_noted)) if file is not None]
@@ -277,6 +281,7 @@ class Watch:
 
     def look(self) -> None:
         """Looks at what it has written into files, and at how long it takes."""
+        self._besides()
         for file, most in self._files:
             self.see(os.fstat(file.fileno()).st_size, most)
         patience = self.patience

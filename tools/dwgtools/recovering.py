@@ -10,7 +10,8 @@ from typing import IO, Tuple
 
 from .escapes import one_line
 from .file import version_of_rest
-from .inputs import refuse_changed, state_of
+from .inputs import CHANGED, Input, again, from_begin
+from .mapped import is_map_whole
 from .notes import Recovery, read_recovery
 from .outputs import WholeFile
 from .pairs import Written, alone_beside, place_both
@@ -19,10 +20,11 @@ from .report import ReadAs
 from .statuses import Exit, Status, ToolError
 from .streams import input_name, is_standard
 from .temporary import TemporaryFull, temporary_file
+from .verdicts import findings_of
 from .versions import MOST_HEADER, OURS, VERSIONS
 
 
-def recovered(program: Program, source: IO[bytes], options: argparse.Namespace, written: Written) -> Tuple[Recovery, ReadAs, IO[bytes]]:
+def recovered(program: Program, source: Input, options: argparse.Namespace, written: Written) -> Tuple[Recovery, ReadAs, IO[bytes]]:
     """Writes the output and its notes, and gives what these say, by which version the input was read, and the drawing that was written."""
     try:
         if is_standard(options.out):
@@ -34,6 +36,7 @@ def recovered(program: Program, source: IO[bytes], options: argparse.Namespace, 
             written.stands = True
             return told, read, kept
         with WholeFile(options.out, options.force) as whole, WholeFile(options.out + ".notes", options.force) as notes:
+            whole.new = notes.new = 0o666 if source.mode is None else 0o666 & source.mode | 0o600
             # (what is told of both is read when they are placed and closed)
             told, read = run_recover(program, source, whole.file, again(notes.file), options)
             notes.finish()
@@ -51,19 +54,14 @@ def recovered(program: Program, source: IO[bytes], options: argparse.Namespace, 
         raise ToolError(f"{what}: {fault.strerror}", Status.WRITE_FAULT) from None
 
 
-def again(file: IO[bytes]) -> IO[bytes]:
-    """An open file that stays open where it is closed."""
-    return os.fdopen(os.dup(file.fileno()), "rb")
-
-
-def run_recover(program: Program, source: IO[bytes], out: IO[bytes], notes: IO[bytes], options: argparse.Namespace) -> Tuple[Recovery, ReadAs]:
+def run_recover(program: Program, source: Input, out: IO[bytes], notes: IO[bytes], options: argparse.Namespace) -> Tuple[Recovery, ReadAs]:
     """Recovers into an open file, and its notes into another; what these say, and by which version the input was read."""
-    name, before = input_name(options.source), state_of(source)
-    os.lseek(source.fileno(), 0, os.SEEK_SET)
-    answer = program.run(["recover"], source, out, notes=notes)
-    told = told_by(answer, notes, options.source, options.out)
-    read = read_as(program, source, told)
-    refuse_changed(source, before, name)
+    name = input_name(options.source)
+    answer = program.run(["recover"], from_begin(source.file), out, notes=notes)
+    told = told_by(answer, notes, source.file, options.source, options.out)
+    read = read_as(program, source.file, told)
+    if source.is_changed:
+        raise ToolError(f"{name}: {CHANGED}", Status.READ_FAULT)
     if told.kept == 0 and not options.even_empty:
         why = f"{told.refusal}: no object was kept, so nothing is written"
         raise ToolError(f"{name}: {why}" + (f"; the rest of the header is that of {read.rest}" if read.rest else ""), Exit.NOTHING_KEPT)
@@ -80,14 +78,13 @@ def read_back(program: Program, out: IO[bytes]) -> int:
         raise ToolError("no memory was to be had", answer.status)
     if answer.status == Status.WRITE_FAULT:
         raise TemporaryFull()
-    end = b"audit yes" if answer.status == Status.DONE else b"audit no %d" % (answer.count - 1)
-    if answer.status not in (Status.DONE, Status.FOUND) or answer.last != end:
+    if answer.status not in (Status.DONE, Status.FOUND):
         raise ProgramFailed("what it wrote is read as no drawing")
-    return answer.count - 1
+    return findings_of(answer)
 
 
-def told_by(answer: Answer, notes: IO[bytes], source: str, out: str) -> Recovery:
-    """What the notes of an answer say; ToolError where there is nothing recovered."""
+def told_by(answer: Answer, notes: IO[bytes], content: IO[bytes], source: str, out: str) -> Recovery:
+    """What the notes of an answer say, and the content of which it is; ToolError where there is nothing recovered."""
     if answer.status in (Status.DONE, Status.FOUND):
         try:
             told = read_recovery(notes)
@@ -95,6 +92,7 @@ def told_by(answer: Answer, notes: IO[bytes], source: str, out: str) -> Recovery
             raise ProgramFailed(str(fault)) from None
         if (told.refusal is None) != (answer.status == Status.DONE):
             raise ProgramFailed(f"the notes of `recover` aren't those of status {int(answer.status)}")
+        told.is_map_whole = is_map_whole(told, content)
         return told
     if answer.status == Status.WRITE_FAULT:
         raise TemporaryFull() if is_standard(out) else ToolError(f"{one_line(out)} can't be written", answer.status)

@@ -4,14 +4,19 @@ from __future__ import annotations
 
 import collections
 import itertools
+import re
 from dataclasses import dataclass, field
 from typing import Any, Dict, Iterable, Iterator, List, Optional
 
 from .chains import Chain
 from .escapes import one_line
-from .notes import LOSSES, MAPPING, Recovery
+from .notes import LOSSES, Recovery
+from .program import ProgramFailed
 from .streams import input_name, is_standard
 from .survey import Survey
+
+# A finding of `audit`: its rule, and what it leads to.
+FINDING = re.compile(rb"finding [0-9A-F]{1,16} ([!-~]+) [!-~]+ [0-9]+ ([0-9A-F]{1,16})\n")
 
 # How many breaks of a block, and how many handles, are told in words.
 MOST_BREAKS = 10
@@ -91,7 +96,13 @@ class Report:
     @property
     def is_map_whole(self) -> bool:
         """Whether all entries of the map are known."""
-        return not any(self.told.lost[sort] for sort in MAPPING)
+        return self.told.is_map_whole
+
+    @property
+    def found_elsewhere(self) -> Optional[str]:
+        """The section that isn't whole at its place and was found at another one, where the refusal tells it."""
+        name = {"variables": "header variables", "classes": "classes"}.get(self.told.refusal.part) if self.told.refusal else None
+        return name if name and not self.told.lost[name] else None
 
     @property
     def entries(self) -> int:
@@ -100,17 +111,24 @@ class Report:
 
 
 def audited(lines: Iterable[bytes], survey: Survey) -> Audit:
-    """What `audit` prints."""
+    """What `audit` prints; ProgramFailed where it prints no findings and their count, as a program may that isn't dwg, whatever it printed before."""
     rules: Dict[str, int] = collections.Counter()
-    missing = set()
+    missing, end = set(), b""
     for line in lines:
-        words = line.decode("ascii").split()
-        if words[0] == "finding":
-            rules[words[2]] += 1
-            target = int(words[5], 16)
-            if words[2] == "resolve" and target and target not in survey.kinds:
-                missing.add(target)
-    return Audit(ordered(rules), sorted(missing))
+        words = FINDING.fullmatch(line)
+        if end or not words and not line.startswith(b"audit "):
+            raise ProgramFailed("`audit` prints what is no finding")
+        if not words:
+            end = line
+            continue
+        rule, target = words[1].decode("ascii"), int(words[2], 16)
+        rules[rule] += 1
+        if rule == "resolve" and target and target not in survey.kinds:
+            missing.add(target)
+    audit = Audit(ordered(rules), sorted(missing))
+    if end != (b"audit no %d\n" % audit.findings if audit.findings else b"audit yes\n"):
+        raise ProgramFailed("`audit` doesn't end as it should")
+    return audit
 
 
 def number(count: int, one: str, more: Optional[str] = None) -> str:
@@ -140,6 +158,8 @@ def lines_of_losses(report: Report) -> Iterator[str]:
             yield f"  page {loss.number} of the map, at {loss.place}"
         elif loss.what == "map end":
             yield f"  the map from {loss.place} on"
+    if report.found_elsewhere:
+        yield f"  perhaps the {report.found_elsewhere}: those at their place aren't whole, and what was found elsewhere may be of another drawing"
     objects = [loss.handle or 0 for loss in itertools.islice(told.losses("object"), MOST_BREAKS)]
     named = f": {handles(objects, count)}" if objects else ""
     if report.is_map_whole:

@@ -16,7 +16,8 @@ VERDICTS = ("sound", "unsound", "trailing bytes", "damaged", "other version", "n
 class Row:
     """A line of the table. `mtime_ns` is the time of the last change, and `sha256` the content, by which LOG knows a file again.
 
-    One that is `lasting` is kept in LOG though its verdict is `failed`: the program would fail on this content again.
+    One that is `lasting` is kept in LOG though its verdict is `failed`: the program would fail on this content again. One that isn't `settled` is of a
+    file that may change once more and have the same time.
     """
 
     path: str
@@ -31,6 +32,7 @@ class Row:
     sha256: Optional[str] = None
     preview: Optional[Preview] = None
     lasting: bool = False
+    settled: bool = True
 
 
 COLUMNS = ("path", "verdict", "detail", "findings", "bytes", "trailing", "version")
@@ -41,9 +43,9 @@ RULES = 2
 
 
 def as_object(row: Row) -> Dict[str, Any]:
-    """A line as an object of JSON. Whether it is lasting isn't told: of those that failed LOG has no others."""
+    """A line as an object of JSON. Whether it is lasting isn't told: of those that failed LOG has no others; nor whether it is settled."""
     told = asdict(row)
-    del told["lasting"]
+    del told["lasting"], told["settled"]
     return told
 
 

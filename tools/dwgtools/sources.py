@@ -4,29 +4,34 @@ from __future__ import annotations
 
 import os
 from dataclasses import dataclass
-from typing import IO, Iterable, Iterator, Optional, Sequence, Set, Tuple
+from typing import Iterator, Optional, Sequence, Set, Tuple
 
 from .drawings import Drawing
+from .inputs import Input, bytes_of, input_of, refuse_changed, state_of
 from .program import Program
 from .statuses import Status, ToolError
-from .streams import input_name, is_standard
+from .streams import input_name, is_own_pipe, is_standard
+from .temporary import temporary_told
 from .verdicts import open_regular
+from .versions import OURS
 from .walking import Named, Walk, walked, without_new
 
 
 @dataclass(frozen=True)
 class Source(Named):
-    """A drawing that a word names, or one of a folder; or a folder that can't be read, and why."""
+    """A drawing that a word names, or one of a folder; or a folder that can't be read, and why. One that `can_wait` may be a pipe."""
 
     is_named: bool = True
+    can_wait: bool = False
 
 
-def sources_of(words: Iterable[str], walk: Walk, new: Sequence[os.stat_result]) -> Iterator[Source]:
-    """What the words name, in their order, and of folders what the walk takes, without new files that the output or messages go to."""
+def sources_of(words: Sequence[str], walk: Walk, new: Sequence[os.stat_result]) -> Iterator[Source]:
+    """What the words name, in their order, and of folders what the walk takes, without new files that the output or messages go to. A named pipe is
+    waited for where it holds up no other word."""
     seen: Set[Tuple[int, int]] = set()
     for word in words:
         if is_standard(word) or not os.path.isdir(word):
-            yield Source(word)
+            yield Source(word, can_wait=len(words) == 1 or is_standard(word) or is_own_pipe(word))
             continue
         for one in without_new(walked(word, walk, seen), new):
             yield Source(one.path, one.fault, is_named=one.fault is not None and one.path == word)
@@ -36,13 +41,19 @@ def drawing_of(source: Source, program: Program, page: Optional[str]) -> Drawing
     """The drawing of a source; ToolError where it can't be read."""
     if source.fault is not None:
         raise ToolError(f"{input_name(source.path)}: {source.fault}", Status.READ_FAULT)
-    return Drawing(program, source.path, None if source.is_named else regular(source.path), page)
+    return Drawing(program, source.path, None if source.can_wait else regular(source.path, source.is_named), page)
 
 
-def regular(path: str) -> IO[bytes]:
-    """A file of a folder, and nothing that isn't one: nobody named a pipe there, which would hold up all after it."""
+def regular(path: str, is_named: bool) -> Input:
+    """A file, and nothing that isn't one: a pipe would hold up all after it. Of what begins as no drawing in a folder no more is read."""
     try:
-        return open_regular(path)
+        with temporary_told(), open_regular(path) as file:
+            before = state_of(file)
+            if not is_named and bytes_of(file, len(OURS[0])) not in OURS:
+                raise ToolError(f"{input_name(path)}: no drawing that is read", Status.REFUSED)
+            found = input_of(file)
+            refuse_changed(file, before, input_name(path))
+            return found
     except OSError as fault:
         raise ToolError(f"{input_name(path)}: {fault.strerror}", Status.READ_FAULT) from None
 

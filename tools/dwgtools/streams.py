@@ -61,6 +61,15 @@ def is_standard(path: Optional[str]) -> bool:
     return path is None or path == "-"
 
 
+# How the pipes of a process substitution, and standard input, are called.
+_OWN_PIPE = re.compile(r"/dev/stdin|/(?:dev|proc/self)/fd/[0-9]+")
+
+
+def is_own_pipe(path: str) -> bool:
+    """Whether a word names what the tool has open since it began, as the shell has it for a process substitution."""
+    return bool(_OWN_PIPE.fullmatch(path))
+
+
 def as_file(name: str) -> str:
     """The name of a file as a word that stands for no standard stream."""
     return os.path.join(".", name) if is_standard(name) else name

@@ -7,7 +7,7 @@ from typing import IO, Dict, Iterable, List, Tuple
 
 from .drawings import Drawing
 from .encodings import decoded
-from .inputs import kept, opened, refuse_changed, state_of
+from .inputs import input_of, opened, refuse_changed, state_of
 from .names import class_names, type_name
 from .program import Program
 from .show import Lists, Object, Prefix, TooMuchText, read_objects, read_prefix, shown_lines
@@ -118,7 +118,7 @@ def survey_before(program: Program, path: str) -> Survey:
         begin = file.read(len(SHOWN))
         if begin not in OURS:
             return survey_of_text(file, begin, input_name(path))
-        whole = kept(file, begin)
+        whole = input_of(file, begin)
     return survey_of(Drawing(program, path, whole))
 
 

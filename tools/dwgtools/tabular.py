@@ -31,6 +31,13 @@ def json_line(said: Dict[str, Any]) -> bytes:
     return json.dumps(said).encode("ascii") + b"\n"
 
 
+def json_pieces(said: Dict[str, Any]) -> Iterator[bytes]:
+    """A line of JSON as json_line makes it, in pieces: what is told of a drawing may name each kind on each layer, far longer than what is held."""
+    for piece in json.JSONEncoder().iterencode(said):
+        yield piece.encode("ascii")
+    yield b"\n"
+
+
 def lines_of(path: str, rows: Iterable[Dict[str, Any]], columns: Sequence[str], as_json: bool) -> Iterator[bytes]:
     """The lines of rows of a file."""
     for row in rows:

@@ -37,7 +37,8 @@ STATUS_OF_FAILED = {"no memory": Status.NO_MEMORY, "changed while it was checked
 @dataclass(frozen=True)
 class Made:
     """What was written of a file: the name below OUT, the SHA-256 of the drawing and of its notes, of which a copy has none, how many objects were
-    kept, lost and found without an entry of the map, how many findings the drawing has, and how often each other part was lost."""
+    kept, lost and found without an entry of the map, how many findings the drawing has, how often each other part was lost, and whether all entries
+    of the map are known, which an older LOG doesn't tell."""
 
     output: str
     sha256: str
@@ -47,16 +48,20 @@ class Made:
     found: Optional[int] = None
     findings: Optional[int] = None
     parts: Dict[str, int] = field(default_factory=dict)
+    mapped: Optional[bool] = None
+    # Whether it stands for certain, which LOG tells where runs wrote other outputs of the file before.
+    placed: Optional[bool] = None
 
     @property
     def is_whole(self) -> bool:
-        """Whether nothing is lost of what it was made of: it is a copy, or all was recovered."""
-        return self.notes is None or (self.lost == 0 and not self.parts)
+        """Whether nothing is lost of what it was made of. That is known of a copy alone: the notes of a recovery don't tell which entries of a damaged
+        map are lost, nor that header variables or classes were found elsewhere, as those of another drawing are."""
+        return self.notes is None
 
     @property
     def is_map_whole(self) -> bool:
         """Whether all objects are known that there were: else more may be lost than is counted."""
-        return not self.parts.keys() & set(MAPPING)
+        return self.notes is None or bool(self.mapped)
 
 
 @dataclass
@@ -89,7 +94,10 @@ def line_of_row(row: Row) -> Line:
 def losses_told(made: Made) -> str:
     """What is said of parts that were lost, beside objects, and of objects where more may be lost than these."""
     told = [f"{count} {name}s" if count > 1 else name for name, count in made.parts.items()]
-    return ", ".join(told if made.is_map_whole or not made.lost else [*told, f"at least {made.lost} object{'s' * (made.lost > 1)}"])
+    if not made.is_map_whole:
+        told += [] if made.parts.keys() & set(MAPPING) else ["perhaps entries of the map"]
+        told += [f"at least {made.lost} object{'s' * (made.lost > 1)}"] if made.lost else []
+    return ", ".join(told)
 
 
 def as_object(line: Line) -> Dict[str, Any]:

@@ -3,15 +3,17 @@
 from __future__ import annotations
 
 import os
-from dataclasses import dataclass, fields
+from dataclasses import dataclass, fields, replace
 from typing import Any, Callable, Dict, List, Optional, Set, Tuple
 
 from .escapes import one_line
-from .log import DIGEST, Log, NoLine, absolute_name, is_name, is_number
+from .log import DIGEST, Log, is_name
+from .log_lines import NoLine, is_number
 from .notes import LOSSES
 from .rows import Row
 from .statuses import Exit, ToolError
 from .tree_lines import Line, Made
+from .trees import NOTES
 
 # The numbers of what was written.
 NUMBERS = ("kept", "lost", "found", "findings")
@@ -37,40 +39,55 @@ def read_made(told: Any) -> Optional[Made]:
         raise NoLine
     if not all(name in LOSSES and is_number(count) for name, count in told["parts"].items()):
         raise NoLine
+    if not all(told.get(name) is None or isinstance(told[name], bool) for name in ("mapped", "placed")):
+        raise NoLine
     numbers: Dict[str, Any] = {name: told.get(name) for name in NUMBERS}
-    return Made(told["output"], told["sha256"], told.get("notes"), parts=told["parts"], **numbers)
+    # (older tools didn't tell whether it stood for certain: what stood there before may have been put back)
+    return Made(told["output"], told["sha256"], told.get("notes"), parts=told["parts"], mapped=told.get("mapped"), placed=told.get("placed", True), **numbers)
 
 
 class TreeLog(Log):
     """LOG, which knows what was made of a content, and which files below OUT it made."""
 
-    def __init__(self, path: str, tell_fault: Callable[[str], None]) -> None:
+    def __init__(self, path: str, tell_fault: Callable[[str], None], mode: int) -> None:
         if os.path.islink(path):
             raise ToolError(f"{one_line(path)} is a link", Exit.EXISTS)
         self._of_content: Dict[str, Made] = {}
         self._own: Dict[Tuple[str, str], Set[str]] = {}
         self._last: Dict[str, Made] = {}
         self._whole: Set[Tuple[str, str]] = set()
-        super().__init__(path, tell_fault)
+        # Of which file the last output of each name is.
+        self._source_of: Dict[str, str] = {}
+        # Of which contents each output is, by its name and its own.
+        self._contents_of: Dict[Tuple[str, str], Set[str]] = {}
+        super().__init__(path, tell_fault, mode)
 
     def take_line(self, told: Dict[str, Any], is_current: bool) -> None:
         made = read_made(told.get("made"))
         super().take_line(told, is_current)
         if made is None:
             return
-        self._note(made, told["absolute"])
-        # What another program recovered, this one may recover otherwise.
-        if is_current and made.notes is not None and isinstance(told.get("sha256"), str):
-            self._of_content[told["sha256"]] = made
+        self._note(made, told["absolute"], told.get("sha256"))
+        # What another program recovered, this one may recover otherwise; and an older LOG doesn't tell all of it.
+        if is_current and made.mapped is not None and made.notes is not None and isinstance(told.get("sha256"), str):
+            self._of_content[told["sha256"]] = replace(made, placed=None)
 
-    def _note(self, made: Made, source: str) -> None:
-        """Knows again what was written of a file of such a name, and under which names."""
-        self._own.setdefault((made.output, source), set()).add(made.sha256)
-        if made.notes is not None:
-            self._own.setdefault((made.output + ".notes", source), set()).add(made.notes)
+    def _note(self, made: Made, source: str, content: Optional[str]) -> None:
+        """Knows again what was written of a file of such a name and content, and under which names."""
+        for name, digest in ((made.output, made.sha256), (made.output + NOTES, made.notes)):
+            # (what stood there before is no run's any more: somebody who puts it back wants it there)
+            if made.placed:
+                self._own.pop((name, source), None)
+            before = self._source_of.setdefault(name, source)
+            if before != source:
+                self._own.pop((name, before), None)
+                self._source_of[name] = source
+            if digest is not None:
+                self._own.setdefault((name, source), set()).add(digest)
+                self._contents_of.setdefault((name, digest), set()).add(content or "")
         if made.is_whole:
             self._whole.add((made.output, made.sha256))
-        self._last[made.output] = made
+        self._last[made.output] = replace(made, placed=None)
 
     def recovered_of(self, digest: Optional[str]) -> Optional[Made]:
         """What this program recovered of a content."""
@@ -85,11 +102,16 @@ class TreeLog(Log):
         return found
 
     def is_own(self, name: str, digest: str, source: str) -> bool:
-        """Whether a run wrote a file of such a name and content below OUT, of this source and no other."""
-        return digest in self._own.get((name, absolute_name(source)), ())
+        """Whether a run wrote a file of such a name and content below OUT, of this source and no other, and none has put another in its place: it is what
+        was written last, or what stood there where that was never placed."""
+        return digest in self._own.get((name, self._places.name_of(source)), ())
+
+    def is_of(self, name: str, digest: str, content: Optional[str]) -> bool:
+        """Whether a run wrote a file of such a name and content below OUT, of a source of this content."""
+        return content is not None and content in self._contents_of.get((name, digest), ())
 
     def is_whole(self, name: str, digest: str) -> bool:
-        """Whether a run wrote a file of such a name and content below OUT, and nothing was lost then."""
+        """Whether a run wrote a file of such a name and content below OUT, as a copy of what was whole."""
         return (name, digest) in self._whole
 
     def add(self, line: Line) -> None:
@@ -98,7 +120,21 @@ class TreeLog(Log):
         is_known = line.sha256 is None or line.verdict == "failed" or self.of_content(line.sha256) is not None
         if is_known and (line.made is None or self._last.get(line.made.output) == line.made):
             return
-        row = Kept(**{one.name: getattr(line, one.name) for one in fields(Row)}, made=line.made)
-        self.add_line(absolute_name(line.path), row)
-        if line.made is not None:
-            self._note(line.made, absolute_name(line.path))
+        self._keep(line, line.made)
+
+    def stands(self, line: Line) -> None:
+        """Keeps it that what was written of a file stands, where runs wrote other outputs of it before."""
+        if line.made is None:
+            return
+        made, source = line.made, self._places.name_of(line.path)
+        written = ((made.output, made.sha256), (made.output + NOTES, made.notes))
+        if any(self._own.get((name, source), set()) - {digest} for name, digest in written):
+            self._keep(line, replace(made, placed=True))
+
+    def _keep(self, line: Line, made: Optional[Made]) -> None:
+        """Keeps a line."""
+        row = Kept(**{one.name: getattr(line, one.name) for one in fields(Row)}, made=made)
+        absolute = self._places.name_of(line.path)
+        self.add_line(absolute, row)
+        if made is not None:
+            self._note(made, absolute, line.sha256)

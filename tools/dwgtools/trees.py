@@ -8,12 +8,12 @@ import errno
 import os
 import stat
 from dataclasses import dataclass
-from typing import Dict, Iterable, Iterator, List, Optional
+from typing import Dict, Iterable, Iterator, List, Optional, Set, Tuple
 
 from .escapes import one_line
-from .log import absolute_name
+from .log import absolute_name, is_gone
 from .statuses import Exit, ToolError
-from .streams import as_file, is_one_file, outputs, refuse_streams
+from .streams import as_file, is_one_file, is_standard, outputs, refuse_streams
 from .walking import Named, Walk, below, status_of, walk_of, walked
 
 # The name of LOG below OUT.
@@ -26,6 +26,30 @@ class Planned(Named):
 
     name: str = ""
     refusal: Optional[str] = None
+
+
+class Sources:
+    """The files that are read and the folders that they stand in, by what they are and not by their names: a mount gives one another name."""
+
+    def __init__(self, found: Iterable[Planned]) -> None:
+        self._known: Set[Tuple[int, int]] = set()
+        seen: Set[str] = set()
+        for one in found:
+            self._take(one.path)
+            # (of a word that is a file its folder, and else all up to the word)
+            for folder, _ in zip(folders_above(one.path), (one.name, *folders_of(os.path.dirname(one.name)))):
+                if folder not in seen:
+                    seen.add(folder)
+                    self._take(folder)
+
+    def _take(self, path: str) -> None:
+        told = status_of(path)
+        if told is not None:
+            self._known.add((told.st_dev, told.st_ino))
+
+    def has(self, told: Optional[os.stat_result]) -> bool:
+        """Whether a file or folder is one of these."""
+        return told is not None and (told.st_dev, told.st_ino) in self._known
 
 
 def name_of_word(word: str) -> str:
@@ -50,6 +74,8 @@ def is_below(path: str, top: Optional[os.stat_result]) -> bool:
 def refuse_words(out: str, words: Iterable[str]) -> None:
     """Refuses OUT that is no folder, that stands in what is read or has it, words that are pipes, and those that would have one name below OUT."""
     shown, there = one_line(out), status_of(out)
+    if is_standard(out):
+        raise ToolError("a tree is a folder, and no stream; ./- is a folder of that name", Exit.USAGE)
     if os.path.lexists(out) and (there is None or not stat.S_ISDIR(there.st_mode)):
         raise ToolError(f"{shown} is there, and no folder", Exit.EXISTS)
     names: Dict[str, str] = {LOG_NAME: "the log"}
@@ -118,15 +144,9 @@ def planned(options: argparse.Namespace) -> List[Planned]:
     return list(without_clashes(found))
 
 
-def is_gone(path: str) -> bool:
-    """Whether a file is there no more; one of which that can't be told is there."""
-    try:
-        os.lstat(path)
-    except (FileNotFoundError, NotADirectoryError):
-        return True
-    except (OSError, ValueError):
-        pass
-    return False
+def is_passed(source: str) -> bool:
+    """Whether a file has no line: it is there no more, or became a link or stands beyond one, which isn't followed."""
+    return is_gone(source) or absolute_name(source) != source
 
 
 def left_behind(found: Iterable[Planned], written: Dict[str, List[str]], options: argparse.Namespace) -> Iterator[str]:
@@ -135,7 +155,7 @@ def left_behind(found: Iterable[Planned], written: Dict[str, List[str]], options
     tops = {name_of_word(word) for word in options.files if os.path.isdir(word)}
     for name in sorted(written):
         out = os.path.join(options.tree, name)
-        if name not in names and name.partition(os.sep)[0] in tops and os.path.lexists(out) and all(map(is_gone, written[name])):
+        if name not in names and name.partition(os.sep)[0] in tops and os.path.lexists(out) and all(map(is_passed, written[name])):
             yield out
 
 
@@ -157,18 +177,26 @@ def no_folder(path: str) -> ToolError:
 
 
 @contextlib.contextmanager
-def opened_folder(out: str, one: Planned) -> Iterator[int]:
+def opened_folder(out: str, one: Planned, sources: Sources) -> Iterator[int]:
     """The folder below OUT that an output is to stand in, opened, and made where it isn't there. No link below OUT is gone through, whenever it
-    comes."""
+    comes, and nothing is made in a folder that is read, as a mount below OUT may be."""
     at = os.open(out, OPENED)
     try:
+        refuse_read(os.fstat(at), out, sources)
         for folder, source in reversed(list(zip(folders_of(one.name), folders_above(one.path)))):
             inner = opened_below(at, os.path.basename(folder), source, os.path.join(out, folder))
             os.close(at)
             at = inner
+            refuse_read(os.fstat(at), os.path.join(out, folder), sources)
         yield at
     finally:
         os.close(at)
+
+
+def refuse_read(told: Optional[os.stat_result], path: str, sources: Sources) -> None:
+    """Refuses to write into a folder that is read."""
+    if sources.has(told):
+        raise ToolError(f"{one_line(path)} is a folder that is read", Exit.EXISTS)
 
 
 def folders_above(path: str) -> Iterator[str]:
@@ -176,6 +204,16 @@ def folders_above(path: str) -> Iterator[str]:
     while True:
         path = os.path.dirname(path)
         yield path or os.curdir
+
+
+def most_open(words: Iterable[str]) -> int:
+    """The permissions that OUT has at the most where it is made: those that all folders among the words have, and those by which who runs the tool can
+    write into it."""
+    mode = 0o777
+    for found in map(status_of, words):
+        if found is not None and stat.S_ISDIR(found.st_mode):
+            mode &= found.st_mode
+    return mode | stat.S_IRWXU
 
 
 # How a folder is opened. (It need not be readable for this, where the system has a way.)

@@ -8,11 +8,12 @@ import hashlib
 import os
 import re
 import stat
+import time
 from dataclasses import replace
 from typing import IO, Iterator, Optional, Set
 
 from .file import end_of_drawing, has_header, preview_of, sections_of, version_of_rest
-from .inputs import bytes_of, from_begin, kept, pieces_of, private_file
+from .inputs import again, bytes_of, from_begin, kept, pieces_of, private_file, put
 from .log import Log
 from .looks import inner_drawing, is_text, looks_like, section_of_drawing, zeros_of
 from .notes import Kept, Refusal, TooLarge, read_note
@@ -40,7 +41,7 @@ class Checker:
         self.program, self.log = program, log
         # The pipes that the words name, each of which gives what it has once.
         self.pipes: Set[str] = set()
-        # Whether LOG has the SHA-256 of files too that are too large for the program.
+        # Whether LOG gets the SHA-256 of files too that are too large for the program; those of which it has one get it anyway.
         self.has_all_digests = has_all_digests
 
     def check(self, path: str) -> Row:
@@ -72,7 +73,7 @@ class Checker:
     def checked(self, file: IO[bytes], row: Row) -> Row:
         """The line of an open file."""
         told = os.fstat(file.fileno())
-        row.bytes, row.mtime_ns = told.st_size, told.st_mtime_ns
+        row.bytes, row.mtime_ns, row.settled = told.st_size, told.st_mtime_ns, is_settled(told.st_mtime_ns)
         with self.content(file, row) as content:
             return self.found(file, content, row)
 
@@ -80,7 +81,7 @@ class Checker:
     def content(self, file: IO[bytes], row: Row) -> Iterator[IO[bytes]]:
         """What is judged: the file, or where its line has a SHA-256 the very bytes that have it, which nobody can change meanwhile."""
         size = row.bytes or 0
-        if self.log is None or (size > LIMIT and not self.has_all_digests):
+        if self.log is None or size > LIMIT and not self.has_all_digests and not self.log.has_digest(row.path):
             yield file
             return
         try:
@@ -96,7 +97,7 @@ class Checker:
         known = self.log.of_content(row.sha256) if self.log and row.sha256 else None
         failed = None
         if known:
-            row = replace(known, path=row.path, mtime_ns=row.mtime_ns)
+            row = replace(known, path=row.path, mtime_ns=row.mtime_ns, settled=row.settled)
         else:
             failed = self.fault_of_judging(content, row)
         after = os.fstat(file.fileno())
@@ -238,12 +239,22 @@ class Checker:
         return self.program.run([command], from_begin(file), output, patience)
 
 
+# The steps of the times of file systems: of those that tell seconds or hundredths, and of the others; and how far the clock of one may be ahead.
+STEP_OF_WHOLE, STEP = 2 * 10**9, 2 * 10**7
+AHEAD = 86400 * 10**9
+
+
+def is_settled(mtime_ns: int) -> bool:
+    """Whether a file that changes from now on has another time than this one, by the clock of this machine. (A time beyond tomorrow is none of a
+    clock.)"""
+    ago = time.time_ns() - mtime_ns
+    return ago > (STEP if mtime_ns % 10**7 else STEP_OF_WHOLE) or ago < -AHEAD
+
+
 def kept_in(copy: IO[bytes], piece: bytes) -> None:
     """Adds a piece to a copy; where there is no room, that says nothing of the file."""
-    left = memoryview(piece)
     try:
-        while left:
-            left = left[os.write(copy.fileno(), left) :]
+        put(copy, piece)
     except OSError as fault:
         raise not_kept(fault) from None
 
@@ -271,7 +282,7 @@ def failed_with(status: Status, command: str) -> ProgramFailed:
 def findings_of(answer: Tally) -> int:
     """How many findings `audit` told."""
     findings = answer.count - 1
-    if (answer.status, answer.last) != ((Status.FOUND, b"audit no %d" % findings) if findings else (Status.DONE, b"audit yes")):
+    if findings < 0 or (answer.status, answer.last) != ((Status.FOUND, b"audit no %d" % findings) if findings else (Status.DONE, b"audit yes")):
         raise ProgramFailed("`audit` doesn't end as it should")
     return findings
 
@@ -286,24 +297,43 @@ OF_PLACE = (errno.ENOENT, errno.EACCES, errno.EPERM, errno.EROFS, errno.ENOSPC, 
 
 def kept_pipe(file: IO[bytes]) -> IO[bytes]:
     """What a pipe gives, in a file. ProgramFailed where there is no place for that, which says nothing of the pipe."""
-    is_file = stat.S_ISREG(os.fstat(file.fileno()).st_mode)
+    if stat.S_ISREG(os.fstat(file.fileno()).st_mode):
+        return again(file)
     try:
         found = kept(file)
     except OSError as fault:
         if fault.errno not in OF_PLACE:
             raise
         raise ProgramFailed(f"the pipe can't be kept: {fault.strerror}") from None
-    if not is_file and os.fstat(found.fileno()).st_size > LIMIT:
+    if os.fstat(found.fileno()).st_size > LIMIT:
         found.close()
         raise TooLong
     return found
+
+
+# How many times a file is asked for on which another process has a lease, as Samba has, and how many seconds lie between: the system takes a lease
+# away after 45.
+TIMES_ASKED, BETWEEN = 500, 0.1
+
+
+def opened_soon(path: str) -> int:
+    """Opens a file, and waits for no writer of a pipe, whatever stands at the name meanwhile."""
+    left = TIMES_ASKED
+    while True:
+        try:
+            return os.open(path, os.O_RDONLY | os.O_NONBLOCK | os.O_CLOEXEC)
+        except BlockingIOError:
+            left -= 1
+            if not left:
+                raise
+            time.sleep(BETWEEN)
 
 
 def open_regular(path: str) -> IO[bytes]:
     """Opens a file, and nothing that isn't one: a pipe would never end, and who waits to write into one would lose what it has to say."""
     if not stat.S_ISREG(os.stat(path).st_mode):
         raise OSError(0, "no regular file")
-    handle = os.open(path, os.O_RDONLY | os.O_NONBLOCK | os.O_CLOEXEC)
+    handle = opened_soon(path)
     if not stat.S_ISREG(os.fstat(handle).st_mode):
         os.close(handle)
         raise OSError(0, "no regular file")

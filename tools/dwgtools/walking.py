@@ -4,7 +4,6 @@ from __future__ import annotations
 
 import argparse
 import collections
-import fnmatch
 import os
 import re
 import sys
@@ -12,6 +11,7 @@ import threading
 from dataclasses import dataclass
 from typing import IO, Deque, Iterable, Iterator, List, Optional, Sequence, Set, Tuple, Union
 
+from .patterns import compiled
 from .statuses import Exit, ToolError
 from .streams import as_file, is_one_file, outputs, refuse_pipes, refuse_streams
 
@@ -68,7 +68,10 @@ def pattern_of(word: str) -> "re.Pattern[str]":
     """What a pattern of the shell matches; a slash at its end says nothing."""
     if not word.rstrip(os.sep):
         raise argparse.ArgumentTypeError(f"{word!r} matches no name")
-    return re.compile(fnmatch.translate(word.rstrip(os.sep)))
+    try:
+        return compiled(word.rstrip(os.sep))
+    except ValueError as fault:
+        raise argparse.ArgumentTypeError(str(fault)) from None
 
 
 def add_words(parser: "argparse._ActionsContainer") -> None:
@@ -169,12 +172,16 @@ def names_from(stream: IO[bytes], end: bytes) -> Iterator[str]:
         yield os.fsdecode(rest)
 
 
-def all_named(words: Iterable[str], walk: Walk, end: bytes) -> Iterator[Named]:
-    """The files that the words name."""
+def all_named(words: Iterable[str], walk: Walk, end: bytes, folders: List[str]) -> Iterator[Named]:
+    """The files that the words name, and into a list the folders."""
     seen: Set[Tuple[int, int]] = set()
     for word in words:
         for path in names_from(sys.stdin.buffer, end) if word == "-" else [word]:
-            yield from walked(path, walk, seen) if os.path.isdir(path) else [Named(path)]
+            if os.path.isdir(path):
+                folders.append(path)
+                yield from walked(path, walk, seen)
+            else:
+                yield Named(path)
 
 
 def status_of(path: str) -> Optional[os.stat_result]:
@@ -280,7 +287,8 @@ def can_come(options: argparse.Namespace) -> bool:
 def files_of(options: argparse.Namespace) -> Union[Coming, List[Named]]:
     """The files that the words name. Refused is one that the table or messages would be added to, and so are LOG and the names that are read."""
     # What is new when this begins isn't checked.
-    found = without_new(all_named(options.files, walk_of(options), b"\0" if options.null else b"\n"), outputs(is_new=True))
+    options.folders = []
+    found = without_new(all_named(options.files, walk_of(options), b"\0" if options.null else b"\n", options.folders), outputs(is_new=True))
     # (LOG and a file may be called by a hyphen, which isn't standard input then)
     streams = [*([] if options.log is None else [as_file(options.log)]), *(word for word in options.files if word == "-")]
     if can_come(options):

@@ -15,13 +15,15 @@ import types
 import unittest
 from dataclasses import dataclass
 from functools import lru_cache
-from typing import Dict, List, Optional, Sequence, Tuple
+from typing import Any, Dict, Iterable, List, Optional, Sequence, Tuple
 
 TOP = pathlib.Path(__file__).resolve().parents[2]
 TOOLS = TOP / "tools"
 DATA = TOP / "crates" / "dwg_cli" / "data"
 sys.path.insert(0, str(TOOLS))
 
+from by_format import check_word  # noqa: E402  pylint: disable=wrong-import-position
+from dwgtools.log_lines import line_of_log, read_log_line  # noqa: E402  pylint: disable=wrong-import-position
 from dwgtools.program import find_program  # noqa: E402  pylint: disable=wrong-import-position
 
 PROGRAM = os.path.realpath(find_program())
@@ -146,6 +148,13 @@ def flipped(data: bytes, place: int, mask: int = 0xFF) -> bytes:
     return data[:place] + bytes([data[place] ^ mask]) + data[place + 1 :]
 
 
+def with_page(data: bytes, begin: int, pairs: bytes) -> bytes:
+    """Other pairs at the begin of a page of the map, with a right check word."""
+    end = begin + int.from_bytes(data[begin : begin + 2], "big")
+    sized = data[begin : begin + 2] + pairs + data[begin + 2 + len(pairs) : end]
+    return data[:begin] + sized + check_word(0xC0C1, sized).to_bytes(2, "big") + data[end + 2 :]
+
+
 def hole(data: bytes, place: int, size: int) -> bytes:
     """Zeros over some bytes."""
     return data[:place] + bytes(size) + data[place + size :]
@@ -180,3 +189,15 @@ def unescaped(path: str) -> bytes:
             out.append(short[data[at + 1]])  # type: ignore[arg-type]
             at += 2
     return bytes(out)
+
+
+def read_log(path: pathlib.Path) -> List[Dict[str, Any]]:
+    """The objects of the lines of LOG, each of which has its sum."""
+    found = [read_log_line(line) for line in path.read_bytes().splitlines()]
+    assert all(has_sum for _, has_sum in found), found
+    return [told for told, _ in found]
+
+
+def log_of(told: Iterable[Dict[str, Any]]) -> bytes:
+    """LOG that has these lines, each with its sum."""
+    return b"".join(map(line_of_log, told))

@@ -3,6 +3,7 @@
 from __future__ import annotations
 
 import hashlib
+import json
 import os
 import pathlib
 import shutil
@@ -42,6 +43,16 @@ class Standing(common.InFolder):
         said = [sys.executable, str(TOOLS / "dwg-check"), "--fixity", str(self.log), *map(str, words)]
         return subprocess.run(said, stdin=subprocess.DEVNULL, stdout=stdout, stderr=stderr, check=False)
 
+    def test_a_name_in_no_folder_of_certificates_ends_no_run(self) -> None:
+        self.assertEqual(self.run_with(self.archive).returncode, 0)
+        sound = str(self.archive / "0.dwg")
+        for name in ("gone.certificates/x.dwg", "a\0.certificates/x.dwg", f"{self.log}/x.certificates/x.dwg", f"{'x' * 300}.certificates/x.dwg"):
+            for words, verdicts in ((["-"], ["unreadable", "sound"]), (["-", "--verify"], ["unreadable", "same"])):
+                said = [sys.executable, str(TOOLS / "dwg-check"), "--fixity", str(self.log), "--quiet", "--json", *words]
+                ran = subprocess.run(said, input=f"{name}\n{sound}\n".encode(), capture_output=True, check=False)
+                told = {line["path"]: line["verdict"] for line in map(json.loads, ran.stdout.splitlines())}
+                self.assertEqual([told.get(name), told.get(sound)], verdicts, (name, words, ran.stderr))
+
     def test_nothing_is_said_into_a_certificate(self) -> None:
         self.assertEqual(self.run_with(self.archive).returncode, 0)
         path, other = self.certificate(1), self.file("other", b"")
@@ -66,7 +77,7 @@ class Standing(common.InFolder):
             stand()
             for _ in range(2):
                 ran = self.run_with("--quiet", self.archive)
-                self.assertEqual((ran.returncode, ran.stderr.count(b"\n"), b"no certificate is kept from now on" in ran.stderr), (70, 1, True), ran.stderr)
+                self.assertEqual((ran.returncode, ran.stderr.count(b"\n"), b"cert is no regular file\n" in ran.stderr), (70, 1, True), ran.stderr)
             self.log.unlink()
             path.rmdir() if path.is_dir() else path.unlink()
         # One that another run has written meanwhile is left, and isn't this one.
@@ -75,7 +86,7 @@ class Standing(common.InFolder):
         path.write_bytes(b"another")
         with unittest.mock.patch.object(certificates, "has", return_value=False):
             certificates.kept(Program(os.environ.get("DWG", "")), Row(str(self.archive / "1.dwg"), "sound", sha256=path.stem))
-        self.assertEqual((told, path.read_bytes()), ([f"{self.certificates}: {path.name} is another file; no certificate is kept from now on"], b"another"))
+        self.assertEqual((told, path.read_bytes()), ([f"{self.certificates}: {path.name} is another file"], b"another"))
         certificates.close()
 
     def test_a_folder_that_is_removed_meanwhile(self) -> None:
@@ -91,7 +102,47 @@ class Standing(common.InFolder):
                     last = f"[ $1 != audit ] || ! cmp -s - {self.archive}/2.dwg || {{ rm -r {self.certificates}; {then or ':'}; }}"
                     program = program_that(self.folder, "removing", [last, f'[ $1 != audit ] || exec "$REAL" "$@" < {self.archive}/2.dwg'])
                     ran = self.run_with("--quiet", "--jobs", 1, "--program", program, self.archive)
-                    self.assertEqual((ran.returncode, ran.stderr.count(b"\n")), (70, 1), ran.stderr)
+                    # (where nothing stands in its place the next certificate can't be written)
+                    told = ["No such file or directory; no certificate is kept from now on"] * (not then) + ["it was removed or replaced meanwhile; certificates that were in it are lost"]
+                    self.assertEqual((ran.returncode, ran.stderr.decode()), (70, "".join(f"dwg-check: {self.certificates}: {one}\n" for one in told)))
+
+    def test_certificates_that_are_removed_one_by_one_meanwhile(self) -> None:
+        """Those that the run wrote, and those that it found; what it didn't look for is nobody's fault."""
+        names = [self.certificate(index).name for index in range(3)]
+        other = f"{'0' * 64}.cert"
+        for state in ("written", "found by their names", "found by their contents"):
+            for gone in ([0], [0, 1], []):
+                with self.subTest(state=state, gone=gone):
+                    shutil.rmtree(self.certificates, ignore_errors=True)
+                    self.log.unlink(missing_ok=True)
+                    if state != "written":
+                        self.assertEqual(self.run_with(self.archive / "0.dwg", self.archive / "1.dwg").returncode, 0)
+                        (self.certificates / other).write_bytes(b"")
+                    if state == "found by their contents":
+                        self.log.unlink()
+                    removed = " ".join(str(self.certificates / name) for name in [*(names[index] for index in gone), other])
+                    last = f"[ $1 != audit ] || ! cmp -s - {self.archive}/2.dwg || rm -f {removed}"
+                    program = program_that(self.folder, "removing", [last, f'[ $1 != audit ] || exec "$REAL" "$@" < {self.archive}/2.dwg'])
+                    ran = self.run_with("--quiet", "--jobs", 1, "--program", program, self.archive)
+                    first = min((names[index] for index in gone), default="")
+                    what = "2 certificates were removed meanwhile, the first is" if len(gone) > 1 else "a certificate was removed meanwhile:"
+                    said = f"dwg-check: {self.certificates}: {what} {first}\n" if gone else ""
+                    self.assertEqual((ran.returncode, ran.stderr.decode(), ran.stdout.count(b"\tsound\t")), (70 if gone else 0, said, 3))
+                    # The next run makes them again.
+                    self.assertEqual((self.run_with("--quiet", self.archive).returncode, {*names} - {*os.listdir(self.certificates)}), (0, set()))
+
+    def test_certificates_that_are_no_files_at_the_end(self) -> None:
+        told: List[str] = []
+        program = made.program_that(self.folder, "certifying", ['[ "$1" != certify ] || echo certificate'])
+        rows = [Row(str(path), "sound", sha256=hashlib.sha256(path.read_bytes()).hexdigest()) for path in sorted(self.archive.iterdir())]
+        certificates = Certificates(str(self.log), told.append)
+        self.assertEqual([certificates.kept(Program(str(program)), row) for row in rows], rows)
+        self.certificate(0).unlink()
+        self.certificate(0).mkdir()
+        os.rename(self.certificate(1), self.folder / "away")
+        self.certificate(1).symlink_to(self.folder / "away")
+        certificates.close()
+        self.assertEqual((told, bool(certificates.fault)), ([f"{self.certificates}: a certificate was removed meanwhile: {self.certificate(0).name}"], True))
 
 
 if __name__ == "__main__":

@@ -32,7 +32,8 @@ import test_carry
 from made import TOOLS, WRITER, flipped, hole, layout, program_that, tool, unescaped
 
 from dwgtools.file import sections_of
-from dwgtools.log import LONGEST, MOST_LOOKS, Log, NoLine, read_row, state_of_log
+from dwgtools.log import MOST_LOOKS, Log, read_row, state_of_log
+from dwgtools.log_lines import LONGEST, NoLine
 from dwgtools.program import Program, program_file
 from dwgtools.rows import RULES, Row, as_object
 from dwgtools.verdicts import Checker
@@ -779,6 +780,8 @@ class Check(Base):
             '[ "$1" != audit ] || { echo nothing; exit 1; }': "`audit` doesn't end as it should",
             '[ "$1" != audit ] || { echo audit yes; exit 1; }': "`audit` doesn't end as it should",
             '[ "$1" != audit ] || { echo "audit no 7"; exit 1; }': "`audit` doesn't end as it should",
+            '[ "$1" != audit ] || { printf "audit no -1"; exit 1; }': "`audit` doesn't end as it should",
+            '[ "$1" != audit ] || { printf "\\n"; exit 1; }': "`audit` doesn't end as it should",
             '[ "$1" != audit ] || { head -c 200000 /dev/zero >&2; exit 3; }': "status 3",
             '[ "$1" != audit ] || { printf "dwg: refused: a\\033b 99999999999999999999 at 1: x\\n" >&2; exit 3; }': "status 3",
             '[ "$1" != audit ] || exit 77': "status 77",
@@ -890,7 +893,7 @@ class Logs(Base):
 
     def lines(self) -> List[Dict[str, Any]]:
         """The lines of LOG."""
-        return [json.loads(line) for line in self.log.read_bytes().splitlines()]
+        return made.read_log(self.log)
 
     def test_a_file_beyond_a_link_is_another_one(self) -> None:
         here, there = self.folder / "here", self.folder / "there"
@@ -993,7 +996,7 @@ class Logs(Base):
         """Makes LOG one of other rules, or of none where that is None, whose lines tell otherwise."""
         head, *rows = self.lines()
         head = {name: value for name, value in {**head, "rules": rules}.items() if value is not None}
-        self.log.write_bytes(b"".join(json.dumps(line).encode() + b"\n" for line in (head, *({**row, **more} for row in rows))))
+        self.log.write_bytes(made.log_of([head, *({**row, **more} for row in rows)]))
 
     def test_what_other_rules_found_is_checked_anew(self) -> None:
         """An older dwg-check may have called sound what this one doesn't: its lines stay, and are no verdicts."""
@@ -1141,7 +1144,7 @@ class Logs(Base):
         program = self.counting()
         first = self.resume("--program", program)
         head, one, two = self.log.read_bytes().splitlines(keepends=True)
-        row = json.loads(one)
+        row = self.lines()[1]
         wrong: List[Dict[str, Any]] = [{name: value} for name in row for value in (["x"], {"x": 1}, True, 1.5, -0.0, 1e400)]
         wrong += [{"refusal": {"part": "objects", "index": "1", "place": 2, "reason": []}}, {"verdict": "odd"}, {"path": None}]
         # What no file can have.
@@ -1152,9 +1155,10 @@ class Logs(Base):
         wrong += [{"refusal": {"part": "objects", "index": index, "place": place, "reason": "check"}} for index, place in ((-1, 2), (1, -2), (True, 2))]
         wrong += [{"preview": {"bytes": 9, "pictures": [{"code": code, "bytes": size}]}} for code, size in ((-1, 1), (256, 1), (2, -1), (2, True))]
         wrong += [{name: value} for name in ("path", "absolute") for value in ("\0", "/a\0", "/\ud800", "/\udc7f", "/\udd80")]
-        damaged = [json.dumps({**row, **more}).encode() + b"\n" for more in wrong]
+        wrong += [{"link": value} for value in (7, True, "\0", "/\ud800", ["/a"])]
+        damaged = [made.log_of([{**row, **more}]) for more in wrong]
         damaged += [b"[" * 200_000 + b"\n", b'{"bytes":' * 20_000 + b"\n", b"9" * 100_000 + b"\n", b"x" * 1_000_000 + b"\n", b"\xff\0\n", b"\n", b"null\n", b"[]\n", one[:-20] + b"\n"]
-        odd = json.dumps({**row, "absolute": "/nowhere", "detail": "\ud800\udfff\udc80", "path": "\udc80"}).encode() + b"\n"
+        odd = made.log_of([{**row, "absolute": "/nowhere", "detail": "\ud800\udfff\udc80", "path": "\udc80"}])
         self.audits()
         self.log.write_bytes(head + one + b"".join(damaged) + odd + two)
         ran = self.resume("--program", program)
@@ -1174,8 +1178,8 @@ class Logs(Base):
     def test_a_text_in_log_that_no_terminal_should_have(self) -> None:
         (path,) = self.some(["d/a.dwg"])
         self.resume()
-        head, one = self.log.read_bytes().splitlines(keepends=True)
-        self.log.write_bytes(head + json.dumps({**json.loads(one), "detail": "\ud800\x1b[31m\u202e\t"}).encode() + b"\n")
+        head, one = self.lines()
+        self.log.write_bytes(made.log_of([head, {**one, "detail": "\ud800\x1b[31m\u202e\t"}]))
         (row,) = read_table(self.resume().stdout)
         self.assertEqual((row[0], row[2]), (path, "\\xed\\xa0\\x80\\x1b[31m\\xe2\\x80\\xae\\t"))
 
@@ -1451,7 +1455,7 @@ class Previews(Base):
         for more in ([], [], ["--verify"]):
             self.assertEqual((self.previews(*words, *more), self.audits()), (first, 0))
         # Lines of older tools, in which it doesn't stand, are checked anew.
-        lines = [json.loads(line) for line in log.read_bytes().splitlines()]
+        lines = made.read_log(log)
         for line in lines:
             line.pop("preview", None)
             line.pop("rules", None)

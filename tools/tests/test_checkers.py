@@ -155,6 +155,15 @@ class Processes(common.InFolder):
                 self.assertTrue(test_limits.ended(one), one)
             self.numbers.unlink()
 
+    def test_none_is_left_where_the_tool_is_killed(self) -> None:
+        """No signal tells it: they see by themselves that it isn't there."""
+        started = self.begun("--jobs", "2")
+        own = below(started.pid)
+        self.assertGreaterEqual(len(own), min(2, len(os.sched_getaffinity(0))) * 3)
+        started.kill()
+        started.communicate(timeout=60)
+        self.assertEqual([one for one in {*own, *self.running()} if not test_limits.ended(one)], [])
+
     def test_all_are_stopped_and_go_on(self) -> None:
         started = self.begun("--jobs", "2")
         own = below(started.pid)

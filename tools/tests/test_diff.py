@@ -376,6 +376,33 @@ class Git(common.InFolder):
         self.assertIn('+  "kind": "POINT",', found)
         self.assertTrue(any(line.startswith("@@") and line.endswith('@@ "object": "18",') for line in found), found)
 
+    def test_what_is_no_drawing_that_is_read_ends_nothing(self) -> None:
+        """What the tool says of it stands in its place, and all else is shown."""
+        for index, data in enumerate((made(2, 7)[:-9], b"AC1032", b"")):
+            self.file(f"drawings/b{index}.dwg", data)
+        (self.top / "c.dwg").write_bytes(made(2, 7))
+        self.git("add", ".")
+        self.git("commit", "--quiet", "--message", "More")
+        found = self.git("log", "--patch").splitlines()
+        self.assertEqual([found.count('+  "object": "31",'), sum(line.startswith("+dwg-json: ") for line in found)], [2, 3])
+
+    def test_a_name_that_looks_like_an_option_is_a_name(self) -> None:
+        """One of a foreign repository would name a program that is run."""
+        run = self.folder / "run"
+        for name in ("--program=.", "-o", "--version.dwg", "-plan.dwg"):
+            path = self.top / name / "x.dwg" if name.endswith((".", "o")) else self.top / name
+            path.parent.mkdir(exist_ok=True)
+            path.write_bytes(made(1, 7))
+        self.file("drawings/x.dwg", f"#!/bin/sh\necho > {run}\n".encode())
+        (self.top / "x.dwg").chmod(0o755)
+        self.git("add", ".")
+        self.git("commit", "--quiet", "--message", "More")
+        for path in {*self.top.rglob("*.dwg")} - {self.top / "x.dwg"}:
+            path.write_bytes(made(2, 7))
+        self.assertEqual(self.git("diff").splitlines().count('+  "object": "32",'), 5)
+        self.git("difftool", "--no-prompt", "--tool", "dwg")
+        self.assertEqual((run.exists(), sorted(path.name for path in self.folder.iterdir() if path.is_file())), (False, ["config"]))
+
     def test_drawings_are_compared(self) -> None:
         (self.top / "a plan.dwg").write_bytes(made(2, 7))
         expected = tool("dwg-diff", self.file("old.dwg", made(1, 7)), self.top / "a plan.dwg").stdout.decode()

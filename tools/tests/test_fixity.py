@@ -23,6 +23,7 @@ from dwgtools.certificates import Certificates
 from dwgtools.comparing import Comparer, Kept, Missing, change_of
 from dwgtools.program import Program
 from dwgtools.rows import Row
+from dwgtools.versions import LIMIT
 from dwgtools.walking import Named
 
 made.needs_program()
@@ -80,7 +81,7 @@ class Fixity(common.InFolder):
 
     def lines(self) -> List[Dict[str, Any]]:
         """The lines of LOG."""
-        return [json.loads(line) for line in self.log.read_bytes().splitlines()]
+        return made.read_log(self.log)
 
     def test_what_is_kept(self) -> None:
         ran = self.keep()
@@ -195,12 +196,15 @@ class Fixity(common.InFolder):
         (self.archive / "b.dwg").unlink()
         os.rename(self.archive / "a.dwg", self.archive / "n.dwg")
         os.rename(self.archive / "deep" / "c.dwg", self.archive / "c.dwg")
-        self.assertEqual(self.keep().stderr, self.gone(False, "b.dwg"))
+        moved = f"dwg-check: {self.log}: 2 of its files have other names now; the first is {self.archive}/a.dwg\n".encode()
+        self.assertEqual(self.keep().stderr, moved + self.gone(False, "b.dwg"))
         self.assertEqual(self.compared(), {"n.dwg": "same", "c.dwg": "same", "x.dwg": "same", "b.dwg": "missing"})
-        # It may have been moved out of the folder that is named.
+        # What stood below no word isn't looked for there: a copy may be what is found.
         os.rename(self.archive, self.folder / "e")
         self.assertEqual(self.keep(self.folder / "e").stderr, b"")
-        self.assertEqual(sorted(row.split("\t")[1] for row in self.compare(self.folder / "e").stdout.decode().splitlines()[1:]), ["missing", "same", "same", "same"])
+        self.assertEqual(sorted(row.split("\t")[1] for row in self.compare(self.folder / "e").stdout.decode().splitlines()[1:]), ["missing"] * 4 + ["same"] * 3)
+        self.assertEqual(self.keep("--forget", self.archive).stderr, self.gone(True, "b.dwg", 4))
+        self.assertEqual(self.compare(self.folder / "e").returncode, 0)
 
     def test_what_was_not_read_is_counted(self) -> None:
         """A bit of the same size and time is seen where files are read, and the others are told."""
@@ -283,7 +287,7 @@ class Fixity(common.InFolder):
         os.mkfifo(place)
         self.assertEqual(self.compared()["a.dwg"], "not accepted its certificate can't be read: no regular file")
         ran = tool("dwg-check", "--quiet", "--fixity", self.log, self.archive)
-        said = f"dwg-check: {place.parent}: {place.name} is no regular file; no certificate is kept from now on\n"
+        said = f"dwg-check: {place.parent}: {place.name} is no regular file\n"
         self.assertEqual((ran.returncode, ran.stderr.decode()), (70, said))
         place.unlink()
         with open(place, "wb") as file:
@@ -329,6 +333,30 @@ class Fixity(common.InFolder):
         changing = program_that(self.folder, "changing", [f'[ "$1" != accept ] || {{ "$REAL" accept; : >>"{self.archive}/a.dwg"; touch "{self.archive}/a.dwg"; exit; }}', 'exec "$REAL" "$@"'])
         ran = self.compare("--program", changing, "--jobs", "1", self.archive / "a.dwg")
         self.assertEqual((ran.returncode, self.said(ran)[0]), (68, ["a.dwg", "failed", "changed while it was read"]))
+
+    def test_a_file_that_is_too_large_is_compared_by_resume_too(self) -> None:
+        """Where LOG has its SHA-256, as --fixity keeps it; where --resume alone made LOG, it isn't read."""
+        large, run = self.archive / "large.dwg", lambda *words: tool("dwg-check", "--quiet", "--json", "--resume", self.log, *words, large)
+        large.write_bytes(self.data["a.dwg"])
+        os.truncate(large, LIMIT + 1)
+        told = lambda ran: [(row["verdict"], row["detail"], row["sha256"]) for row in map(json.loads, ran.stdout.splitlines())]
+        why, before = f"more than {LIMIT} bytes", sha(large.read_bytes())
+        for words in ([], ["--verify"]):
+            self.assertEqual(told(run(*words)), [("too large", why, None)])
+        self.keep(large)
+        for words in (["--verify"], []):
+            self.assertEqual(told(run(*words)), [("too large", why, before)])
+        kept = self.log.read_bytes()
+        self.change("large.dwg", LIMIT)
+        after = sha(large.read_bytes())
+        for words in (["--verify"], ["--verify"], []):
+            ran = run(*words)
+            self.assertEqual((ran.returncode, told(ran)), (1, [("changed", f"too large: {why}", after)]), words)
+        self.assertEqual(self.compared(large), {"large.dwg": "changed of the same size and time"})
+        # One that another program changed is what LOG has then, with its SHA-256.
+        os.utime(large, ns=(7, 7))
+        self.assertEqual((told(run()), self.compared(large)), ([("too large", why, after)], {"large.dwg": "same"}))
+        self.assertTrue(self.log.read_bytes().startswith(kept))
 
     def test_a_program_that_certifies_nothing(self) -> None:
         for line, why in (("exit 1", "`certify` and `audit` don't agree"), ("exit 6", "no memory"), ("kill -9 $$", "killed by signal 9")):
@@ -497,6 +525,54 @@ class Fixity(common.InFolder):
                 ran = self.compare(*words)
                 self.assertEqual((ran.returncode, dict(row[:2] for row in self.said(ran))["b.dwg"]), (68, "changed"), leads)
 
+    def test_a_link_that_leads_elsewhere(self) -> None:
+        """What stands under the name of a link is compared with what LOG had there, though the file to which it led is as it was; each is told by its own name."""
+        (self.folder / "e").mkdir()
+        links, new, copy = self.folder / "links", self.file("e/n.dwg", made.made(9)), self.file("e/copy.dwg", self.data["a.dwg"])
+        links.mkdir()
+        link = links / "l.dwg"
+        link.symlink_to(self.archive / "a.dwg")
+        follow = ("--follow", links)
+        run = lambda *words: tool("dwg-check", "--quiet", "--fixity", self.log, "--verify", *words)
+        told = lambda ran: {path: f"{verdict} {detail}".strip() for path, verdict, detail in self.said(ran)}
+        self.keep(*follow, self.archive)
+        before = self.log.read_bytes()
+        self.assertEqual((self.keep(*follow, self.archive).stderr, self.log.read_bytes()), (b"", before))
+        self.assertEqual((run().returncode, {*told(run(*follow)).values()}), (0, {"same"}))
+        archive = {name: "same" for name in self.data}
+        for leads in (self.archive / "b.dwg", new):
+            link.unlink()
+            link.symlink_to(leads)
+            for words in ((), follow, [link], (*follow, self.archive), ("--follow", self.archive, links), (self.archive, link)):
+                ran = run(*words)
+                self.assertEqual((ran.returncode, told(ran)), (68, {**archive, str(link): "changed it led to a.dwg"}), words)
+        # A file of its own in its place is another too, but for one of the same content; so is a link to such a one.
+        link.unlink()
+        link.write_bytes(made.made(9))
+        self.assertEqual((run().returncode, run(link).returncode, told(run(link))[str(link)]), (68, 68, "changed it led to a.dwg"))
+        link.write_bytes(self.data["a.dwg"])
+        self.assertEqual((run().returncode, told(run(link))), (0, {**archive, str(link): "same"}))
+        link.unlink()
+        link.symlink_to(copy)
+        self.assertEqual((run().returncode, run(link).returncode), (0, 0))
+        # A run without --verify has LOG take it as it is, wherever it leads, by the names that it has and by new ones.
+        for leads in (self.archive / "b.dwg", new, self.archive / "b.dwg", self.archive / "a.dwg"):
+            link.unlink()
+            link.symlink_to(leads)
+            self.assertEqual(run().returncode, 68, leads)
+            self.keep(*follow)
+            before = self.log.read_bytes()
+            self.assertEqual((run().returncode, run(*follow).returncode, self.keep(*follow).stderr, self.log.read_bytes()), (0, 0, b"", before), leads)
+        # One that is gone, or leads to nothing.
+        link.unlink()
+        self.assertEqual((run().returncode, told(run())[str(link)]), (68, "missing"))
+        link.symlink_to("nowhere")
+        self.assertEqual((run().returncode, told(run())[str(link)]), (68, f"unreadable {os.strerror(2)}"))
+        link.unlink()
+        link.write_bytes(made.made(8))
+        self.keep(link)
+        self.assertEqual((run().returncode, told(run())[str(link)]), (0, "same"))
+
     def test_a_replaced_file_beyond_a_new_link_is_changed_for_resume_too(self) -> None:
         """One that is sound, of the same size and time."""
         (self.folder / "e").mkdir()
@@ -538,7 +614,7 @@ class Fixity(common.InFolder):
         gone = {name: None for name in ("findings", "bytes", "trailing", "mtime_ns", "sha256", "refusal", "preview")}
         # (as older tools wrote, of files that were gone)
         with open(self.log, "ab") as file:
-            file.write(json.dumps({**row, **gone, "verdict": "unreadable", "detail": os.strerror(2), "version": ""}).encode() + b"\n")
+            file.write(made.log_of([{**row, **gone, "verdict": "unreadable", "detail": os.strerror(2), "version": ""}]))
         self.change("b.dwg")
         for _ in range(2):
             self.assertEqual((self.compared()["b.dwg"], self.compare().returncode), ("changed of the same size and time", 68))
@@ -552,20 +628,21 @@ class Fixity(common.InFolder):
             self.assertEqual((self.compared()["b.dwg"][: len(said)], self.compare().returncode), (said, 0))
             self.assertEqual(self.keep().stdout.count(b"\tchanged\t"), 0)
 
-    def night(self, *words: str) -> "subprocess.CompletedProcess[bytes]":
+    def night(self, **more: str) -> "subprocess.CompletedProcess[bytes]":
         """What the script for cron of the manual page does over the archive."""
         page = (made.TOP / "docs" / "dwg-tools.7").read_text(encoding="utf-8").partition(".Pa night-check\n")[2]
         lines = page.partition(".Bd -literal -offset indent\n")[2].partition(".Ed\n")[0]
         script = self.file("night-check", lines.replace("\\e", "\\").encode("utf-8"))
         script.chmod(0o755)
         path = f"{TOOLS}{os.pathsep}{os.environ['PATH']}"
-        return subprocess.run([script, self.archive, self.log, *words], capture_output=True, check=False, cwd="/", env={**os.environ, "DWG": made.PROGRAM, "PATH": path})
+        environment = {**os.environ, "DWG": made.PROGRAM, "PATH": path, **more}
+        return subprocess.run([script, self.archive, self.log], capture_output=True, check=False, cwd="/", env=environment)
 
-    def expect_night(self, status: int, *rows: str) -> None:
-        """A night ends with a status and tells these lines, by name, verdict and detail."""
+    def expect_night(self, status: int, *rows: str, told: str = "") -> None:
+        """A night ends with a status and tells these lines, by name, verdict and detail; and on standard error what LOG took."""
         ran = self.night()
         said = ["\t".join(line.split("\t")[:3]) for line in ran.stdout.decode().replace(f"{self.archive}/", "").splitlines()]
-        self.assertEqual((ran.returncode, said, ran.stderr), (status, list(rows), b""))
+        self.assertEqual((ran.returncode, said, ran.stderr.decode()), (status, list(rows), told))
 
     def test_the_script_of_the_manual_page_for_each_night(self) -> None:
         """It ends with 0 where all is the same, moved or new, which LOG has then, and else with the status of --verify, whatever is damaged."""
@@ -574,7 +651,8 @@ class Fixity(common.InFolder):
             self.expect_night(0)
         os.rename(self.archive / "a.dwg", self.archive / "n.dwg")
         self.file("d/z.dwg", made.made(9))
-        self.expect_night(0, "n.dwg\tmoved\ta.dwg -> n.dwg", "z.dwg\tnew\tsound")
+        told = f"dwg-check: {self.log}: 1 of its files have other names now; the first is {self.archive}/a.dwg\n"
+        self.expect_night(0, "n.dwg\tmoved\ta.dwg -> n.dwg", "z.dwg\tnew\tsound", told=told)
         self.expect_night(0)
         self.assertTrue((self.certificates / f"{sha(made.made(9))}.cert").exists())
         before = self.log.read_bytes()
@@ -589,6 +667,26 @@ class Fixity(common.InFolder):
         self.log.write_bytes(b"")
         ran = self.night()
         self.assertEqual((ran.returncode, ran.stdout, ran.stderr), (66, b"", f"dwg-check: {self.log} has no file\n".encode()))
+
+    def test_a_night_in_which_nothing_can_run(self) -> None:
+        """It doesn't end as if all were the same: where no tool begins, and where nothing can be written beside LOG."""
+        self.keep()
+        (self.archive / "b.dwg").unlink()
+        self.assertEqual(self.night().returncode, 68)
+        (self.archive / "b.dwg").write_bytes(self.data["b.dwg"])
+        self.assertEqual(self.night().returncode, 0)
+        for place in (self.folder / "log.night", self.folder / "log.table"):
+            place.unlink()
+            place.mkdir()
+            self.assertGreater(self.night().returncode, 0)
+            place.rmdir()
+            self.assertEqual(self.night().returncode, 0)
+        for failing in ('exit 1', '[ "$*" != "${*#*--verify}" ] || exit 1; exec "$REAL_CHECK" "$@"'):
+            folder = self.folder / "failing"
+            folder.mkdir(exist_ok=True)
+            (folder / "dwg-check").write_text(f"#!/bin/sh\n{failing}\n")
+            (folder / "dwg-check").chmod(0o755)
+            self.assertEqual(self.night(PATH=f"{folder}:{TOOLS}:{os.environ['PATH']}", REAL_CHECK=str(TOOLS / "dwg-check")).returncode, 1, failing)
 
     def test_the_output_is_no_file_of_log(self) -> None:
         self.keep()

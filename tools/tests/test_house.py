@@ -188,6 +188,31 @@ class House(unittest.TestCase):
             self.assertEqual([path for path in top.rglob("*") if not path.is_dir()], [])
             shutil.rmtree(top)
 
+    def test_a_checkout_is_left_as_it_is(self) -> None:
+        """One that stands where the tools would be installed, or to which that is a link; this one or another."""
+        if not shutil.which("make"):
+            self.skipTest("make install, as make isn't installed")
+        own, other = self.folder / "own", self.folder / "other"
+        for top in (own, other):
+            for name in ("Makefile", "dwg", "tools", "docs"):
+                (shutil.copytree if (TOP / name).is_dir() else shutil.copy)(TOP / name, self.made_folder(top / "lib" / "dwg") / name)
+        (self.folder / "link" / "lib").mkdir(parents=True)
+        (self.folder / "link" / "lib" / "dwg").symlink_to(own / "lib" / "dwg")
+        before = {path: path.read_bytes() for path in self.folder.rglob("*") if path.is_file()}
+        for prefix, goal, said in (
+            (own, "install", b" is this folder itself\n"), (own, "uninstall", b" is this folder itself\n"), (self.folder / "link", "install", b" is this folder itself\n"),
+            (self.folder / "link", "uninstall", b" is this folder itself\n"), (other, "uninstall", b"no tools are installed in "),
+        ):  # fmt: skip
+            words = ["make", "-s", f"PREFIX={prefix}", "DWG=true", "PROGRAM=/bin/sh", goal]
+            ran = subprocess.run(words, cwd=own / "lib" / "dwg", capture_output=True, check=False)
+            self.assertEqual((ran.returncode, said in ran.stderr), (0 if prefix == other else 2, True), (prefix, goal, ran.stderr))
+            self.assertEqual({path: path.read_bytes() for path in self.folder.rglob("*") if path.is_file()}, before, (prefix, goal))
+
+    def made_folder(self, path: pathlib.Path) -> pathlib.Path:
+        """A folder, which is made where it isn't there."""
+        path.mkdir(parents=True, exist_ok=True)
+        return path
+
     def test_a_folder_with_a_line_end_is_refused(self) -> None:
         if not shutil.which("make"):
             self.skipTest("make install, as make isn't installed")

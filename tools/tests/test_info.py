@@ -662,6 +662,21 @@ class Folders(common.InFolder):
         status, out, said = answer("--layers", self.top)
         self.assertEqual((status, out, said), (0, answer("--layers", *self.whole)[1], self.left_out.replace("3 of 6", "4 of 7")))
 
+    def test_a_named_pipe_holds_no_other_word_up(self) -> None:
+        """Nobody may ever write into it. One that the shell made is read, and so is one that is the only word."""
+        fifo, (one, two, *_) = self.folder / "fifo", self.whole
+        os.mkfifo(fifo)
+        code, told, said = answer("--layers", one, fifo, two)
+        self.assertEqual((code, told, said), (4, answer("--layers", one, two)[1], f"dwg-info: {fifo}: no regular file\n"))
+        self.assertEqual(answer("--layers", fifo, self.top)[1:], (answer("--layers", self.top)[1], f"dwg-info: {fifo}: no regular file\n{self.left_out}"))
+        script = 'dwg-info --layers "$1" <(cat "$2") /dev/stdin < "$1"'
+        ran = test_safety.in_bash(script, one, two)
+        self.assertEqual((ran.returncode, ran.stderr), (0, b""))
+        expected = [row[1:] for row in (*rows_of(answer("--layers", one, two)[1]), *rows_of(answer("--layers", one)[1])[1:])]
+        self.assertEqual([row[1:] for row in rows_of(ran.stdout)], expected)
+        ran = test_safety.in_bash('cat "$1" > "$2" & dwg-info --layers "$2"', one, fifo)
+        self.assertEqual((ran.returncode, [row[1:] for row in rows_of(ran.stdout)]), (0, [row[1:] for row in rows_of(answer("--layers", one)[1])]))
+
     def test_a_fault_that_is_none_of_the_file_is_told(self) -> None:
         size = len(drawn(6, 1))
         failing = program_that(self.folder, "failing", [f'[ "$1" = drill ] || [ "$(stat -Lc %s /dev/stdin)" != {size} ] || kill -9 $$', 'exec "$REAL" "$@"'])

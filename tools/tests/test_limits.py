@@ -2,6 +2,7 @@
 
 from __future__ import annotations
 
+import argparse
 import fcntl
 import json
 import os
@@ -12,6 +13,7 @@ import struct
 import subprocess
 import sys
 import termios
+import threading
 import time
 import unittest
 import unittest.mock
@@ -23,7 +25,10 @@ import made
 from made import TOOLS, program_that
 
 from dwgtools import checkers, plane, processes, shapes, walking
+from dwgtools.arguments import whole_number
+from dwgtools.crew import Crew
 from dwgtools.json_values import Speaker
+from dwgtools.rows import Row
 from dwgtools.show import Lists, Object, read_objects
 from dwgtools.statuses import ToolError
 from dwgtools.values import BadText, Text
@@ -146,7 +151,7 @@ class Time(Checked):
     def test_what_a_wrapper_runs_takes_too_long(self) -> None:
         self.file("d/a.dwg", b"\x80XX\0" + bytes(range(256)))
         endless = "sh -c 'while :; do :; done'"
-        for line in (endless, f"{endless} & {endless} & wait", f"set -m; {endless} & wait", f"while :; do sh -c 'i=0; while [ $i -lt 20000 ]; do i=$((i + 1)); done'; done"):
+        for line in (endless, f"{endless} & {endless} & wait", f"set -m; {endless} & wait", "while :; do sh -c 'i=0; while [ $i -lt 20000 ]; do i=$((i + 1)); done'; done"):
             self.slow = self.refusing(f'[ "$1" != recover ] || {{ echo $$ >>"{self.count}"; {line}; }}', ":")
             self.log.unlink(missing_ok=True)
             said = self.resumed(lines="verdicts.MOST_SECONDS, verdicts.MOST_TAKEN = 0.3, 10")
@@ -269,6 +274,30 @@ class Liars(Checked):
         late = program_that(self.folder, "late", ['[ "$1" != audit ] || { exec 3<&0; "$REAL" audit <&3 | { sleep 0.7; cat; } & exit 0; }', 'exec "$REAL" "$@"'])
         ran = otherwise("dwg-check", "", "--quiet", "--program", late, self.path)
         self.assertEqual((ran.returncode, [row[1] for row in rows(ran.stdout)]), (0, ["sound"]))
+
+
+class Numbers(common.InFolder):
+    """Numbers of command lines are ASCII digits alone, whatever else Python reads as a number."""
+
+    WRONG = ("1_0", " 5", "5 ", "5\n", "+5", "-1", "0", "1e2", "", "\u0663", "\u00b2", "\uff15", "9" * 5000)
+
+    def test_whole_numbers(self) -> None:
+        for most in (999, 1000, 100_000):
+            read = whole_number(1, most)
+            for word in (*self.WRONG, str(most + 1), f"0{most}"):
+                with self.assertRaisesRegex(argparse.ArgumentTypeError, f"is no number from 1 to {most}"):
+                    read(word)
+            self.assertEqual([read(word) for word in ("1", "007", str(most))], [1, 7, most])
+
+    def test_each_tool(self) -> None:
+        out, path = self.folder / "out", self.folder / "a.dwg"
+        options = {
+            "dwg-check": ["--jobs=1_0"], "dwg-recover": ["--jobs=1_0", "--tree", out], "dwg-info": ["--picture=1_0", "--preview", out],
+            "dwg-picture": ["--width=1_0", "-o", out], "dwg-json": ["--codepage=1_0"], "dwg-picture ": ["--window=0,0,1_0,5"],
+        }  # fmt: skip
+        for name, words in options.items():
+            ran = made.tool(name.strip(), *words, path)
+            self.assertEqual((ran.returncode, ran.stdout, out.exists()), (64, b"", False), (name, words))
 
 
 class NoLog(Checked):
@@ -1108,6 +1137,29 @@ class Unbuffered(unittest.TestCase):
             os.sched_yield()
             written = ran.stdout.read()
         self.assertEqual((ran.returncode, len(written)), (0, 1_000_000))
+
+
+class Crews(unittest.TestCase):
+    """Threads that check, where the system gives no more of these."""
+
+    def test_room_for_a_process(self) -> None:
+        """Where the last thread takes the last room, some end."""
+        for most, given, left in ((4, 9, 4), (4, 5, 4), (4, 4, 2), (4, 3, 1), (4, 1, 0), (4, 0, 0), (1, 2, 1), (1, 1, 0)):
+            begun: List[threading.Thread] = []
+            begin = threading.Thread.start
+
+            def start(thread: threading.Thread, begun: List[threading.Thread] = begun, given: int = given) -> None:
+                if len(begun) == given:
+                    raise RuntimeError("can't start new thread")
+                begun.append(thread)
+                begin(thread)
+
+            with unittest.mock.patch.object(threading.Thread, "start", start):
+                crew = Crew(most)
+            found = [crew.submit(lambda name=str(index): Row(name)) for index in range(9)]
+            self.assertEqual([one.result().path for one in found], list(map(str, range(9))))
+            self.assertEqual(sum(thread.is_alive() for thread in begun), left, (most, given))
+            crew.end(None)
 
 
 if __name__ == "__main__":

@@ -27,7 +27,7 @@ import spelled
 import test_limits
 from made import PROGRAM, TOOLS, dwg, made, needs_program, program_that, shown, tool
 
-from dwgtools import lettering, plane, shapes
+from dwgtools import lettering, parts, plane, shapes
 from dwgtools.drawings import Drawing
 from dwgtools.encodings import CODE_PAGES
 from dwgtools.painter import Page, Painter
@@ -1007,6 +1007,59 @@ class Pictures(common.InFolder):
         self.assertEqual((dict(reader.undrawn), len(picture.seen)), ({"INSERT (more than 65536 bytes in all)": 3 * inserts}, 0))
         self.assertLess(sum(look.call_count for look in looks), 20 * (runs + inserts))
 
+    def test_definitions_that_are_looked_at_in_vain(self) -> None:
+        """However many inserts have many blocks in common, each with a little more than there is room for, no more of these are looked at in all."""
+        one, blocks, inserts, most = spelled.Drawing(), 200, 60, 40000
+        groups = range(0x300, 0x30A)
+        for block in (0x30, *groups, *range(0x200, 0x200 + blocks), *range(0x400, 0x400 + inserts)):
+            one.block(block, b"B%d" % block)
+        one.last = 0x500
+        for block in range(0x200, 0x200 + blocks):
+            one.polyline([(k, k % 2 + block) for k in range(40)], owner=block)
+            one.insert(block, (1, 2, 0), owner=groups[block % len(groups)])
+        for block in groups:
+            one.insert(block, (1, 2, 0), owner=0x30)
+        for block in range(0x400, 0x400 + inserts):
+            one.insert(0x30, (block, 0, 0), owner=block)
+            one.insert(block, (0, 0, 0))
+        one.line((0, 0, 0), (1, 1, 0))
+        looks = []
+        for sought in (100, 1 << 22):
+            patches = unittest.mock.patch.multiple("dwgtools.picture", MOST_WRITTEN=most, TIMES_WRITTEN=0), unittest.mock.patch("dwgtools.painter.MOST_SOUGHT", sought)
+            with patches[0], patches[1], counting(Painter, "measured") as looking:
+                reader, picture = self.painted(one)
+            self.assertEqual((dict(reader.undrawn), len(picture.seen)), ({f"INSERT (more than {most} bytes in all)": inserts}, 1))
+            looks.append(looking.call_count)
+        self.assertLess(looks[0], 3 * (blocks + inserts))
+        self.assertGreater(looks[1], 10 * looks[0])
+
+    def test_attributes_of_an_insert_are_read_once(self) -> None:
+        """In a block that is drawn to many depths too, where they are hidden, and are counted as if they were read each time where they aren't."""
+        for flags in (1, 0):
+            one, depths = spelled.Drawing(), 40
+            chain, outer = range(0x200, 0x200 + 70), range(0x300, 0x300 + depths)
+            for block in (0x30, 0x31, *chain, *outer):
+                one.block(block, b"B%d" % block)
+            one.last = 0x400
+            for below, above in ((chain, 0x30), (outer, 0)):
+                for first, second in zip(below, below[1:]):
+                    one.insert(second, (0, 0, 0), owner=first)
+                if above:
+                    one.insert(below[0], (0, 0, 0), owner=above)
+            one.line((0, 0, 0), (1, 1, 0), owner=chain[-1])
+            one.line((0, 0, 0), (1, 1, 0), owner=0x31)
+            insert = one.insert(0x31, (0, 0, 0), owner=0x30)
+            for _ in range(20):
+                one.attribute(b"v", b"t", (0.0, 0.0), 1.0, owner=insert, flags=flags)
+            for block in outer:
+                one.insert(0x30, (0, 0, 0), owner=block)
+            one.insert(outer[0], (0, 0, 0))
+            with counting(parts.Reader, "read") as reading:
+                reader, _ = self.painted(one)
+            names = [call[0][1].kind for call in reading.call_args_list]
+            self.assertEqual(names.count("ATTRIB"), 20, flags)
+            self.assertGreater(names.count("INSERT"), depths)
+
     def test_bytes_told_in_vain(self) -> None:
         """A block that many others have, each with more than there is room for, isn't told again for each of them."""
         one = spelled.Drawing()
@@ -1109,7 +1162,7 @@ class Pictures(common.InFolder):
         """What reads a drawing, and its picture, in this process."""
         out, given = io.BytesIO(), types.SimpleNamespace(space="model", block=None, width=1200, background="white", layers=None, window=None)
         found = Drawing(Program(PROGRAM), str(self.file("painted.dwg", one.file())))
-        with found.file, contextlib.redirect_stderr(io.StringIO()):
+        with contextlib.closing(found), contextlib.redirect_stderr(io.StringIO()):
             reader, _ = paint(found, out, given)
         return reader, Picture(out.getvalue())
 

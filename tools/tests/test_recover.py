@@ -19,10 +19,12 @@ import unittest.mock
 from typing import Any, Dict, Iterable, Iterator, List, Optional, Tuple
 
 import made
-from made import TOOLS, TOP, dwg, flipped, layout, program_that, shown, tool
+from by_format import page
+from made import TOOLS, TOP, dwg, flipped, hole, layout, program_that, shown, tool, with_page
 
 from dwgtools import chains
 from dwgtools.drawings import Drawing
+from dwgtools.mapped import is_page_spelled
 from dwgtools.outputs import WholeFile
 from dwgtools.pairs import Written, place_both
 from dwgtools.program import Program
@@ -63,6 +65,14 @@ def without(handles: Iterable[int]) -> bytes:
         if frame.handle in set(handles):
             data = flipped(data, frame.place + 2 + frame.size // 2)
     return data
+
+
+def is_spelled(pairs: bytes) -> bool:
+    """Whether the pairs of a page are, by the tools."""
+    try:
+        return is_page_spelled(pairs)
+    except ValueError:
+        return False
 
 
 ALL = {handle for handle, _, _ in OBJECTS}
@@ -112,6 +122,28 @@ class Recover(unittest.TestCase):
         self.assertIn("passes the audit", text)
         self.assertNotIn("Lost", text)
         self.assertEqual(self.out.stat().st_mode & 0o777, 0o666 & ~current_mask())
+
+    def test_outputs_are_no_more_open_than_the_input(self) -> None:
+        """But for who runs the tool; of a pipe the umask alone tells."""
+        before = os.umask(0o022)
+        self.addCleanup(os.umask, before)
+        self.source.write_bytes(without([0x40]))
+        for mode, expected in ((0o600, 0o600), (0o440, 0o640), (0o666, 0o644), (0o755, 0o644)):
+            self.source.chmod(mode)
+            with open(self.source, "rb") as given:
+                for words, stdin in (([self.source], subprocess.DEVNULL), (["-"], given)):
+                    said = [str(TOOLS / "dwg-recover"), "--program", made.PROGRAM, *map(str, words), str(self.out)]
+                    self.assertEqual(subprocess.run(said, stdin=stdin, stdout=subprocess.DEVNULL, check=False).returncode, 1)
+                    self.assertEqual([path.stat().st_mode & 0o7777 for path in (self.out, self.notes)], [expected] * 2, (mode, words))
+                    self.out.unlink()
+                    self.notes.unlink()
+        self.assertEqual(tool("dwg-recover", "-", self.out, given=self.source.read_bytes()).returncode, 1)
+        self.assertEqual([path.stat().st_mode & 0o7777 for path in (self.out, self.notes)], [0o644] * 2)
+        # What is replaced keeps its mode.
+        self.source.chmod(0o600)
+        self.out.chmod(0o664)
+        self.assertEqual(tool("dwg-recover", "--force", self.source, self.out).returncode, 1)
+        self.assertEqual([path.stat().st_mode & 0o7777 for path in (self.out, self.notes)], [0o664, 0o644])
 
     def test_a_pair_is_placed_or_what_was_there_is_back(self) -> None:
         """Where the output or its notes can't take their name, what was there is there again, and nothing where nothing was."""
@@ -204,6 +236,27 @@ class Recover(unittest.TestCase):
         stand_in = program_that(self.folder, "stand-in", ['[ "$1" != audit ] || exit 6', 'exec "$REAL" "$@"'])
         self.assertIn(b"no memory was to be had", self.refused(6, "--force", "--program", stand_in, self.source, self.out))
 
+    def test_an_audit_that_is_none_for_the_second_time(self) -> None:
+        """What was read back stands, and that the report isn't made is told as what the program did."""
+        self.source.write_bytes(without([0x40]))
+        no_finding, no_end = b"`audit` prints what is no finding", b"`audit` doesn't end as it should"
+        answers = {
+            "": no_end, "\\n": no_finding, "finding\\n": no_finding, "finding 1 resolve x 0\\naudit no 1\\n": no_finding, "finding 1 resolve x 0 XY\\naudit no 1\\n": no_finding,
+            "finding \\377 \\377 \\377 0 1\\naudit no 1\\n": no_finding, "audit yes\\naudit yes\\n": no_finding, "audit yes\\n\\n": no_finding, "audit yes": no_end, "audit no 7\\n": no_end,
+            "finding 1 resolve x 0 40\\naudit yes\\n": no_end, "finding 1 resolve x 0 40\\n": no_end, "audit no 0\\n": no_end,
+        }  # fmt: skip
+        for answer, why in answers.items():
+            for status in (0, 1):
+                with self.subTest(answer, status=status):
+                    lines = [f'[ "$1" != audit ] || mkdir "{self.folder}/first" 2>/dev/null || {{ printf "{answer}"; exit {status}; }}', 'exec "$REAL" "$@"']
+                    ran = tool("dwg-recover", "--program", program_that(self.folder, "stand-in", lines), self.source, self.out)
+                    self.assertEqual((ran.returncode, ran.stdout), (69, b""), ran.stderr)
+                    self.assertTrue(ran.stderr.startswith(b"dwg-recover: the program dwg gave no answer: " + why), ran.stderr)
+                    self.assertEqual(self.out.read_bytes(), dwg("recover", given=self.source.read_bytes()).stdout)
+                    for path in (self.out, self.notes):
+                        path.unlink()
+                    (self.folder / "first").rmdir()
+
     def test_an_older_state_that_is_no_text_is_refused_by_its_first_bytes(self) -> None:
         self.source.write_bytes(DATA)
         before = self.folder / "zeros"
@@ -283,6 +336,52 @@ class Recover(unittest.TestCase):
         self.assertIn(f"  page 0 of the map, at {place}\n", text)
         self.assertIn("  objects that only the map named: as it isn't whole, it isn't known how many there were\n", text)
         self.assertNotIn("entries of the map", text)
+
+    def test_a_page_whose_entries_end_unspelled(self) -> None:
+        """Its check word is right, and the notes tell nothing of the entries that it had: the refusal does, or where the header variables are damaged
+        too, the page itself."""
+        begin, size = PARTS.pages[0]
+        keeps = DATA[begin + 2 : begin + 12]
+        for pairs, reason in (
+            (keeps + b"\xff" * (size - 12), "pair"),
+            (keeps + (b"\x81" * 9 + b"\x01") * 2, "pair"),
+            (b"\x05\x41" + keeps, "pair"),
+            (b"\x00" + DATA[begin + 3 : begin + 12], "null"),
+            (keeps[:9] + b"\x00", "duplicate"),
+        ):
+            data = with_page(DATA, begin, pairs)
+            for given in (data, hole(data, PARTS.variables, 4)) if reason != "duplicate" else (data,):
+                told = self.report(given)
+                part = "map" if given == data else "variables"
+                self.assertEqual((told["refusal"]["part"], told["lost"]["pages"], told["lost"]["map_end"], told["lost"]["map_whole"]), (part, [], None, False), pairs)
+                self.assertIn(reason if given == data else "begin", told["refusal"]["reason"])
+                text = self.words()
+                self.assertRegex(text, r" of \d+ entr(y|ies) of the map that could be read|objects that only the map named")
+                self.assertIn("as it isn't whole, it isn't known how many there were\n", text)
+        # A map that is whole is known to be, whatever else is damaged.
+        for given in (hole(DATA, PARTS.variables, 4), hole(DATA, PARTS.classes, 4), without([0x40])):
+            self.assertTrue(self.report(given)["lost"]["map_whole"])
+
+    def test_spelled_pages(self) -> None:
+        """Steps are spelled by docs/FORMAT.md, Object map and Bit codes."""
+        most = b"\xff" * 8 + b"\x7f"
+        spelled = [b"", b"\x01\x00", b"\x01\x40", b"\x81\x80\x00\x00", most + b"\x00", b"\x01" + b"\xff" * 9 + b"\x00", b"\x01\x05\x01\x45"]
+        spelled += [b"\x01" + b"\x80" * 9 + b"\x00", b"\x81" + b"\x80" * 8 + b"\x00\x00"]
+        not_spelled = [b"\x01", b"\x81", b"\x01\x80", b"\x00\x01", b"\x01\x41", most + b"\x00\x01\x00", b"\x01\x05\x01\x46", b"\x81" + b"\x80" * 9 + b"\x00\x00"]
+        not_spelled += [b"\xff" * 9 + b"\x01\x00", b"\x01" + b"\xff" * 9 + b"\x01", b"\x01" + b"\x80" * 10 + b"\x00"]
+        for pairs in spelled + not_spelled:
+            # (the program says the same of a drawing with such a page)
+            refusal = dwg("audit", given=DATA[: PARTS.map] + page(pairs) + page(b"")).stderr.decode()
+            is_refused = bool(re.match(r"dwg: refused: map 0 at \d+: (pair|null)", refusal))
+            self.assertEqual((is_spelled(pairs), is_refused), (pairs in spelled, pairs in not_spelled), (pairs, refusal))
+
+    def test_header_variables_that_are_found_elsewhere(self) -> None:
+        """They are perhaps those of another drawing, as where two stand one after the other."""
+        told = self.report(flipped(DATA + made.made(30, 9), PARTS.variables))
+        self.assertEqual((told["refusal"]["part"], told["lost"]["variables"], told["lost"]["map_whole"]), ("variables", False, True))
+        self.assertIn("  perhaps the header variables: those at their place aren't whole, and what was found elsewhere may be of another drawing\n", self.words())
+        self.report(flipped(DATA, PARTS.variables))
+        self.assertNotIn("perhaps", self.words())
 
     def test_a_cut(self) -> None:
         size = PARTS.frames[150].place + 1

@@ -23,14 +23,16 @@ from typing import Any, Callable, Dict, Iterator, List, Optional, Tuple, Union
 
 import common
 import made
+import spelled
 import test_limits
-from made import TOOLS, TOP, dwg, flipped, hole, layout, made as drawn, program_that, tool, unescaped
+from made import TOOLS, TOP, dwg, flipped, hole, layout, made as drawn, program_that, tool, unescaped, with_page
 
 from dwgtools import growing
-from dwgtools.log import NoLine
+from dwgtools.log_lines import NoLine
+from dwgtools.statuses import ToolError
 from dwgtools.tree_lines import Line, Made
 from dwgtools.tree_log import read_made
-from dwgtools.trees import Planned
+from dwgtools.trees import Planned, Sources, opened_folder
 
 made.needs_program()
 
@@ -188,7 +190,7 @@ class Tree(common.InFolder):
 
     def logged(self) -> List[Dict[str, Any]]:
         """The lines of LOG after its heads."""
-        told = [json.loads(line) for line in (self.out / LOG).read_bytes().splitlines()]
+        told = made.read_log(self.out / LOG)
         return [one for one in told if "path" in one]
 
     def noting(self) -> Path:
@@ -446,6 +448,27 @@ class Modes(Tree):
         self.grown(1, self.plans / "a.dwg")
         self.assertEqual(self.modes(), {"a.dwg": "600", "a.dwg.notes": "600"})
 
+    def test_out_and_its_log(self) -> None:
+        """OUT, where it is made, and a new LOG are no more open than any folder that is read."""
+        (self.folder / "open").mkdir(mode=0o755)
+        (self.folder / "open" / "c.dwg").write_bytes(drawn(5, 5))
+        self.plans.chmod(0o750)
+        for words, out, log in (([self.plans], 0o750, 0o640), ([self.plans / "deep", self.folder / "open"], 0o750, 0o640), ([self.plans / "read"], 0o755, 0o644), ([self.folder / "open", self.plans / "read"], 0o755, 0o644), ([self.folder / "open" / "c.dwg"], 0o755, 0o644)):
+            tool("dwg-recover", "--tree", self.out, *words)
+            self.assertEqual((self.out.stat().st_mode & 0o7777, (self.out / LOG).stat().st_mode & 0o7777), (out, log), words)
+            shutil.rmtree(self.out)
+        self.plans.chmod(0o500)
+        self.grown(1, self.plans, self.folder / "open")
+        self.assertEqual((self.out.stat().st_mode & 0o7777, (self.out / LOG).stat().st_mode & 0o7777), (0o700, 0o600))
+        # What is there stays as it is, and a LOG that is new there isn't open.
+        self.out.chmod(0o755)
+        (self.out / LOG).chmod(0o644)
+        self.grown(1, self.plans)
+        self.assertEqual((self.out.stat().st_mode & 0o7777, (self.out / LOG).stat().st_mode & 0o7777), (0o755, 0o644))
+        (self.out / LOG).unlink()
+        self.grown(1, self.plans)
+        self.assertEqual((self.out.stat().st_mode & 0o7777, (self.out / LOG).stat().st_mode & 0o7777), (0o755, 0o600))
+
     def test_what_is_replaced(self) -> None:
         self.grown(1, self.plans)
         for name, mode in (("a.dwg", 0o644), ("a.dwg.notes", 0o400)):
@@ -665,6 +688,53 @@ class Refusals(Tree):
                     self.assertTrue(os.path.samefile(source, name))
                 shutil.rmtree(self.out)
 
+    def test_another_input_is_no_output(self) -> None:
+        """Neither an output nor its notes replace what is another file of the run, by whatever link."""
+        other = self.plans / "other.dwg"
+        other.write_bytes(drawn(3, 3))
+        for name in (self.place, Path(f"{self.place}.notes")):
+            self.place.parent.mkdir(parents=True)
+            os.link(other, name)
+            for force in ([], ["--force"]):
+                (row,) = [row for row in self.grown(73, *force, self.plans) if row["path"] == str(self.plan)]
+                self.assertEqual((row["outcome"], row["detail"].endswith(f"{name} is a file that is read")), ("refused", True), row)
+                self.assertTrue(os.path.samefile(other, name))
+            shutil.rmtree(self.out)
+
+    def test_a_folder_that_is_read_is_not_written_into(self) -> None:
+        """By a mount it may stand below OUT, or be OUT; here another name of a folder is one of a file that is read."""
+        inner = self.out / "plans" / "sub"
+        inner.mkdir(parents=True)
+        before = sorted(self.out.rglob("*"))
+        for read, name, place in (("plans/sub", "plans/sub/a.dwg", inner), ("plans/sub", "plans/sub/x/a.dwg", inner), ("plans", "plans/b.dwg", inner.parent), ("", "a.dwg", self.out)):
+            sources = Sources([Planned(str(self.out / read / "b.dwg"), None, "b.dwg")])
+            with self.assertRaisesRegex(ToolError, re.escape(f"{place} is a folder that is read")), opened_folder(str(self.out), Planned(str(self.plan), None, name), sources):
+                self.fail("it is opened")
+        self.assertEqual(sorted(self.out.rglob("*")), before)
+        # All folders are known up to the word.
+        sources = Sources([Planned(str(inner / "x" / "b.dwg"), None, "sub/x/b.dwg")])
+        self.assertEqual([sources.has(path.stat()) for path in (inner, inner.parent, self.out)], [True, False, False])
+        words = [Planned(str(inner / "b.dwg"), None, "b.dwg"), Planned(str(inner / "c.dwg"), None, "plans/sub/c.dwg")]
+        self.assertTrue(Sources(words).has(inner.parent.stat()))
+
+    def test_a_mount_of_what_is_read(self) -> None:
+        other, whole = self.plans / "other" / self.plan.name, drawn(3, 3)
+        inner = self.plans / "sub" / self.plan.name
+        for path, data in ((other, whole), (inner, self.data)):
+            path.parent.mkdir()
+            path.write_bytes(data)
+        mount = self.out / "plans" / "sub"
+        for place, status in ((mount, 73), (self.out, 73)):
+            place.mkdir(parents=True, exist_ok=True)
+            if subprocess.run(["mount", "--bind", str(other.parent), str(place)], capture_output=True, check=False).returncode:
+                self.skipTest("a mount, as none can be made")
+            try:
+                ran = tool("dwg-recover", "--force", "--tree", self.out, self.plans)
+            finally:
+                subprocess.run(["umount", str(place)], check=True)
+            self.assertEqual((ran.returncode, other.read_bytes(), os.listdir(other.parent)), (status, whole, [other.name]), ran.stderr)
+            self.assertIn(f"{place} is a folder that is read".encode(), ran.stdout + ran.stderr)
+
     def test_the_log_is_no_output(self) -> None:
         log = self.plans / "x" / LOG
         log.parent.mkdir()
@@ -787,6 +857,33 @@ class Resumed(Tree):
         self.grown(1, "--whole", "copy", self.plans)
         self.assertEqual((place.read_bytes(), Path(f"{place}.notes").exists()), (drawn(5, 5), False))
 
+    def test_a_folder_that_became_a_link(self) -> None:
+        """What a run left is its own by the names of files as they are spelled, whatever became a link since."""
+        for word in ("plans", "plans/in"):
+            with self.subTest(word=word):
+                place, moved, other = (self.folder / top / word for top in ("", "moved", "other"))
+                shutil.rmtree(self.plans)
+                (self.plans / "in").mkdir(parents=True)
+                paths = [self.plans / "in" / name for name in ("a.dwg", "b.dwg")]
+                for path in paths:
+                    path.write_bytes(older(drawn(5, 5)))
+                self.grown(1, place)
+                moved.parent.mkdir(parents=True, exist_ok=True)
+                place.rename(moved)
+                place.symlink_to(moved)
+                paths[0].write_bytes(older(drawn(7, 7)))
+                table = self.grown(1, place)
+                self.assertEqual([row["outcome"] for row in table], ["recovered"] * 2, table)
+                self.assertEqual(Path(table[0]["output"]).read_bytes(), dwg("recover", given=older(drawn(7, 7))).stdout)
+                # By a name that LOG doesn't have it is another's.
+                paths[0].write_bytes(older(drawn(9, 9)))
+                shutil.copytree(moved, other)
+                self.assertEqual([row["outcome"] for row in self.grown(73, other)], ["refused", "recovered"])
+                place.unlink()
+                self.plans.mkdir(exist_ok=True)
+                for folder in (self.out, self.folder / "moved", self.folder / "other"):
+                    shutil.rmtree(folder)
+
     def test_what_is_whole_gives_way_to_nothing_that_is_not(self) -> None:
         """The copy that an earlier run made is perhaps the last good one: what is recovered later doesn't replace it, and the line says so."""
         source, place = self.plans / "sound" / "5.dwg", self.out / "sound" / "5.dwg"
@@ -815,9 +912,44 @@ class Resumed(Tree):
         self.assertEqual([row["outcome"] for row in self.grown(1, *words) if row["path"] == str(source)], ["recovered"])
         self.assertEqual(place.read_bytes(), dwg("recover", given=source.read_bytes()).stdout)
 
+    def test_a_copy_gives_way_to_no_recovery_without_a_loss_in_the_notes(self) -> None:
+        """A page of the map whose entries end unspelled, and header variables that were found elsewhere, are in no note."""
+        source, place = self.plans / "sound" / "5.dwg", self.out / "sound" / "5.dwg"
+        words = ("--whole", "copy", self.plans / "sound")
+        drawing = spelled.Drawing()
+        for _ in range(5):
+            # (such objects are found by the map alone)
+            drawing.frame(80, drawing.free(), "1" * 40, "")
+        one, two = drawing.file(), drawn(5, 5) + drawn(30, 9)
+        begin, size = layout(one).pages[0]
+        unspelled = with_page(one, begin, one[begin + 2 : begin + 12] + b"\xff" * (size - 12))
+        for whole, damaged in ((one, unspelled), (two, flipped(two, layout(drawn(5, 5)).variables))):
+            self.assertNotIn(b"lost: ", dwg("recover", given=damaged).stderr)
+            source.write_bytes(whole)
+            self.grown(0, *words)
+            source.write_bytes(damaged)
+            (row,) = [row for row in self.grown(73, *words) if row["path"] == str(source)]
+            self.assertEqual((row["outcome"], place.read_bytes()), ("refused", whole))
+            self.assertTrue(row["detail"].endswith(f"; {place} is whole, and what is recovered isn't; --force replaces it"), row)
+            for force in (["--force"], []):
+                (row,) = [row for row in self.grown(1, *force, *words) if row["path"] == str(source)]
+                self.assertEqual((row["outcome"], row["lost"]), ("recovered", "?" if damaged == unspelled else "0"))
+                self.assertEqual(row["detail"].endswith(": pair; lost: perhaps entries of the map"), damaged == unspelled, row)
+
+    def test_a_log_that_does_not_tell_whether_the_map_is_whole(self) -> None:
+        """What an older run wrote is recovered anew, and is known as its own."""
+        name = self.plans / "flips" / "5.dwg"
+        (row,) = self.grown(1, name)
+        head, told = made.read_log(self.out / LOG)
+        self.assertIs(told["made"].pop("mapped"), True)
+        (self.out / LOG).write_bytes(made.log_of([head, told]))
+        self.runs()
+        self.assertEqual((self.grown(1, name), row["lost"]), ([row], "1"))
+        self.assertIs(self.logged()[-1]["made"]["mapped"], True)
+
     def test_what_is_whole(self) -> None:
-        lossy = {"lost": 0, "parts": {"map end": 1}}, {"lost": 1}, {"lost": None}
-        for told, is_whole in (({"notes": None}, True), ({"lost": 0}, True), *((told, False) for told in lossy)):
+        lossy = {"lost": 0}, {"lost": 0, "parts": {"map end": 1}}, {"lost": 1}, {"lost": None}
+        for told, is_whole in (({"notes": None}, True), *((told, False) for told in lossy)):
             made_of: Dict[str, Any] = {"notes": "1" * 64, **told}
             self.assertEqual(Made("a.dwg", "0" * 64, **made_of).is_whole, is_whole, told)
 
@@ -826,12 +958,12 @@ class Resumed(Tree):
         order: List[str] = []
         grower = growing.Growing.__new__(growing.Growing)
         grower.one, grower.out = Planned("a.dwg", None, "a.dwg"), "a.dwg"
-        grower.tree = SimpleNamespace(add=lambda line: order.append(f"log {line.made.output}"))
-        grower.grower = SimpleNamespace(alone=lambda file: contextlib.nullcontext())
-        grower.may_replace = lambda file, made, files: None
-        whole = SimpleNamespace(finish=lambda: None)
+        grower.tree = SimpleNamespace(add=lambda line: order.append(f"log {line.made.output}"), stands=lambda line: order.append("stands"))
+        grower.grower = SimpleNamespace(alone=lambda file: contextlib.nullcontext(), written=set())
+        grower.may_replace = lambda file, line, made, files: None
+        whole = SimpleNamespace(finish=lambda: None, name="a.dwg", there=lambda name: None, force=False)
         grower.place(None, Line("a.dwg"), Made("a.dwg", "0" * 64), [(whole, "")], lambda: order.append("place"))
-        self.assertEqual(order[:2], ["log a.dwg", "place"])
+        self.assertEqual(order, ["log a.dwg", "place", "stands"])
 
     def begun(self, *words: object) -> "subprocess.Popen[bytes]":
         """A run that has begun."""
@@ -930,23 +1062,22 @@ outputs.WholeFile.place = killing
         name = self.plans / "flips" / "5.dwg"
         self.grown(1, name)
         log = self.out / LOG
-        head, line = log.read_bytes().splitlines()
-        told = json.loads(line)
+        head, told = made.read_log(log)
         made_line = told["made"]
         wrong: List[Any] = [
             7, "x", [], {}, {**made_line, "sha256": "0"}, {**made_line, "sha256": None}, {**made_line, "notes": 7}, {**made_line, "kept": -1}, {**made_line, "lost": "1"},
             {**made_line, "found": True}, {**made_line, "findings": 1.5}, {**made_line, "output": None}, {**made_line, "parts": None}, {**made_line, "parts": {"x": 1}},
-            {**made_line, "parts": {"map page": "1"}}, {**made_line, "output": "\0"}, {**made_line, "output": "\ud800.dwg"},
+            {**made_line, "parts": {"map page": "1"}}, {**made_line, "mapped": 1}, {**made_line, "output": "\0"}, {**made_line, "output": "\ud800.dwg"},
         ]  # fmt: skip
         for one in wrong:
             with self.assertRaises(NoLine, msg=one):
                 read_made(one)
         self.assertEqual(asdict(read_made(made_line)), made_line)  # type: ignore[call-overload]
-        log.write_bytes(head + b"\n" + json.dumps({**told, "made": wrong[0]}).encode() + b"\n")
+        log.write_bytes(made.log_of([head, {**told, "made": wrong[0]}]))
         self.grown(1, name, said=f"dwg-recover: {log}: a damaged line is passed, the first is line 2\ndwg-recover: 1 files: 1 recovered\n")
         # Who has LOG tell another content of what stands there gives that away, and nothing else.
         for digest_told in ("a" * 64, digest(b"own")):
-            log.write_bytes(head + b"\n" + json.dumps({**told, "made": {**made_line, "sha256": digest_told}}).encode() + b"\n")
+            log.write_bytes(made.log_of([head, {**told, "made": {**made_line, "sha256": digest_told}}]))
             self.assertEqual(self.grown(1, name)[0]["outcome"], "recovered")
             self.assertEqual((self.out / "5.dwg").read_bytes(), dwg("recover", given=name.read_bytes()).stdout)
 
@@ -996,6 +1127,18 @@ class Faults(Tree):
                 self.assertEqual(([row["outcome"] for row in table], ran.returncode), (["recovered", outcome, "recovered"], status), table)
                 self.assertEqual((table[1]["status"], why in table[1]["detail"]), (str(status), True), table[1])
                 self.assertEqual(there, {name: data for name, data in self.expected.items() if b"b.dwg" not in name})
+
+    def test_an_audit_of_what_was_recovered_that_is_none(self) -> None:
+        """The file is failed, and LOG has no line that would be damaged."""
+        size = len(dwg("recover", given=self.lost["b.dwg"]).stdout)
+        for answer, status in (("audit yes", 0), ("x\\naudit yes\\n", 0), ("audit no -1", 1), ("\\n", 1), ("", 0)):
+            lines = [f'[ "$1" != audit ] || [ "$(stat -Lc %s /dev/stdin)" != {size} ] || {{ printf "{answer}"; exit {status}; }}', 'exec "$REAL" "$@"']
+            ran = tool("dwg-recover", "--program", program_that(self.folder, "odd", lines), "--quiet", "--tree", self.out, self.plans)
+            table = rows(ran.stdout)
+            self.assertEqual(([row["outcome"] for row in table], ran.returncode, ran.stderr), (["recovered", "failed", "recovered"], 69, b""), answer)
+            self.assertIn("`audit` doesn't end as it should", table[1]["detail"])
+            self.assertEqual(len([one for one in made.read_log(self.out / LOG) if "path" in one]), 2)
+            shutil.rmtree(self.out)
 
     def test_recover_without_end(self) -> None:
         size = len(self.lost["b.dwg"])
@@ -1223,6 +1366,156 @@ class Recipe(Tree):
             self.assertEqual(ran.returncode, 1, ran.stderr)
             answer = dwg("recover", given=data)
             self.assertEqual(sorted(tree_of(self.folder / "recovered").values()), sorted([answer.stdout, answer.stderr] * 20))
+
+
+class Replaced(Tree):
+    """What stands below OUT gives way to nothing that may be worse."""
+
+    def test_what_another_program_recovered_of_the_same_content_stays(self) -> None:
+        """It may be the better one. What is of another content is replaced, whichever program made it."""
+        source = self.plans / "x.dwg"
+        source.write_bytes(older(drawn(20, 1)))
+        worse = program_that(self.folder, "worse", ['[ "$1" != recover ] || { tail -c +1 >"$0.in"; head -c 1500 "$0.in" | "$REAL" recover; exit; }', 'exec "$REAL" "$@"'])
+        self.grown(1, source)
+        before = tree_of(self.out)
+        for _ in range(2):
+            (row,) = self.grown(73, "--program", worse, source)
+            self.assertEqual((row["outcome"], tree_of(self.out)), ("refused", before))
+            self.assertIn(f"{self.out}/x.dwg is of the same content, by another program; --force replaces it", row["detail"])
+        self.grown(1, "--force", "--program", worse, source)
+        self.assertNotEqual(tree_of(self.out), before)
+        source.write_bytes(older(drawn(21, 1)))
+        self.grown(1, source)
+        self.assertEqual(tree_of(self.out), {b"x.dwg": dwg("recover", given=source.read_bytes()).stdout, b"x.dwg.notes": dwg("recover", given=source.read_bytes()).stderr})
+
+    def test_an_output_that_was_put_back_stays(self) -> None:
+        """One of an earlier content, which somebody wanted again; unlike one that a run which ended too early was about to replace."""
+        source, out = self.plans / "x.dwg", self.out / "x.dwg"
+        source.write_bytes(older(drawn(20, 1)))
+        self.grown(1, source)
+        before = tree_of(self.out)
+        source.write_bytes(older(drawn(21, 1)))
+        self.grown(1, source)
+        after = tree_of(self.out)
+        self.assertNotEqual(after[b"x.dwg"], before[b"x.dwg"])
+        for name, data in before.items():
+            (self.out / os.fsdecode(name)).write_bytes(data)
+        for _ in range(2):
+            (row,) = self.grown(73, source)
+            self.assertEqual((row["outcome"], tree_of(self.out)), ("refused", before))
+            self.assertIn(f"{out} is there already, and isn't what a run left there; --force replaces it", row["detail"])
+        # Also once LOG has other lines.
+        other = self.plans / "y.dwg"
+        for count in (1, 2):
+            other.write_bytes(older(drawn(count, 3)))
+            self.assertEqual([row["outcome"] for row in self.grown(73, source, other)], ["refused", "recovered"])
+            self.assertEqual(tree_of(self.out)[b"x.dwg"], before[b"x.dwg"])
+        # (of older lines nobody knows)
+        old = [{**line, "made": {name: value for name, value in line["made"].items() if name != "placed"}} if line.get("made") else line for line in made.read_log(self.out / LOG) if not (line.get("made") or {}).get("placed")]
+        whole = (self.out / LOG).read_bytes()
+        (self.out / LOG).write_bytes(made.log_of(old))
+        self.assertEqual([row["outcome"] for row in self.grown(73, source, other)], ["refused", "recovered"])
+        (self.out / LOG).write_bytes(whole)
+        # A run that ended before it replaced anything has no line that says so.
+        log = self.out / LOG
+        lines = log.read_bytes().splitlines(keepends=True)
+        log.write_bytes(b"".join(line for line in lines if b'"placed": true' not in line))
+        self.assertEqual(len(lines) - len(log.read_bytes().splitlines()), 2)
+        self.grown(1, source)
+        self.assertEqual({name: data for name, data in tree_of(self.out).items() if name in after}, after)
+
+    def test_an_output_that_was_put_back_where_nothing_stood_stays(self) -> None:
+        """What a run writes onto a name where nothing stands, as after another was taken away, is what it left there, and nothing before."""
+        source, safe = self.plans / "x.dwg", self.folder / "safe"
+        source.write_bytes(older(drawn(20, 1)))
+        self.grown(1, source)
+        before = tree_of(self.out)
+        safe.mkdir()
+        for name in before:
+            os.rename(self.out / os.fsdecode(name), safe / os.fsdecode(name))
+        source.write_bytes(older(drawn(21, 1)))
+        self.grown(1, source)
+        self.grown(1, source)
+        for name in before:
+            os.rename(safe / os.fsdecode(name), self.out / os.fsdecode(name))
+        for _ in range(2):
+            (row,) = self.grown(73, source)
+            self.assertEqual((row["outcome"], tree_of(self.out)), ("refused", before))
+
+    def test_an_output_that_was_put_back_in_the_place_of_that_of_another_file_stays(self) -> None:
+        """Of two files that have one name below OUT the later one has the name."""
+        sources = [self.plans / folder / "plans" / "x.dwg" for folder in ("old", "new")]
+        for count, source in enumerate(sources):
+            source.parent.mkdir(parents=True)
+            source.write_bytes(older(drawn(20 + count, 1)))
+        self.grown(1, sources[0].parent)
+        before = tree_of(self.out)
+        for name in before:
+            (self.out / os.fsdecode(name)).unlink()
+        self.grown(1, sources[1].parent)
+        for name, data in before.items():
+            (self.out / os.fsdecode(name)).write_bytes(data)
+        sources[0].write_bytes(older(drawn(30, 1)))
+        for source in (*sources, *sources):
+            (row,) = self.grown(73, source.parent)
+            self.assertEqual((row["outcome"], tree_of(self.out)), ("refused", before), source)
+
+    def test_what_a_run_placed_before_it_was_killed_is_known_to_stand(self) -> None:
+        source, log = self.plans / "x.dwg", self.out / LOG
+        for count in (20, 21):
+            source.write_bytes(older(drawn(count, 1)))
+            self.grown(1, source)
+            before = tree_of(self.out) if count == 20 else before
+        lines = log.read_bytes().splitlines(keepends=True)
+        log.write_bytes(b"".join(lines[:-1]))
+        self.assertIn(b'"placed": true', lines[-1])
+        self.grown(1, source)
+        for name, data in before.items():
+            (self.out / os.fsdecode(name)).write_bytes(data)
+        (row,) = self.grown(73, source)
+        self.assertEqual((row["outcome"], tree_of(self.out)), ("refused", before))
+
+    def test_a_tree_is_no_stream(self) -> None:
+        self.assertEqual(self.refused(64, self.plans, out="-"), "dwg-recover: a tree is a folder, and no stream; ./- is a folder of that name\n")
+
+    def test_a_huge_file_at_the_name_of_an_output_is_not_read(self) -> None:
+        self.plans.joinpath("x.dwg").write_bytes(older(drawn(20, 1)))
+        self.out.joinpath("plans").mkdir(parents=True)
+        for name in ("x.dwg", "x.dwg.notes"):
+            path = self.out / "plans" / name
+            path.touch()
+            try:
+                os.truncate(path, 1 << 42)
+            except OSError:
+                os.truncate(path, 1 << 33)
+            (row,) = self.grown(73, self.plans)
+            self.assertIn("is there already, and isn't what a run left there", row["detail"])
+            path.unlink()
+
+    def test_outputs_of_one_run_replace_each_other_not(self) -> None:
+        """A file system may take two names for one, or somebody links one to the other meanwhile."""
+        for name in ("a.dwg", "b.dwg"):
+            self.plans.joinpath(name).write_bytes(older(drawn(20, 1 + (name == "b.dwg"))))
+        link = f'[ "$1" != recover ] || [ ! -e "{self.out}/plans/a.dwg" ] || ln -f "{self.out}/plans/a.dwg" "{self.out}/plans/b.dwg"'
+        linking = program_that(self.folder, "linking", [link, 'exec "$REAL" "$@"'])
+        first, second = self.grown(73, "--force", "--jobs", "1", "--program", linking, self.plans)
+        self.assertEqual((first["outcome"], second["outcome"]), ("recovered", "refused"))
+        self.assertIn(f"{self.out}/plans/b.dwg is what this run has written of another file", second["detail"])
+
+    def test_files_that_became_links_are_told(self) -> None:
+        """They aren't followed, and no line is theirs."""
+        (self.plans / "s").mkdir()
+        for name in ("a.dwg", "c.dwg", "s/b.dwg"):
+            self.plans.joinpath(name).write_bytes(older(drawn(20, len(name))))
+        self.grown(1, self.plans)
+        os.rename(self.plans / "s", self.folder / "moved")
+        (self.plans / "s").symlink_to(self.folder / "moved")
+        os.rename(self.plans / "c.dwg", self.folder / "moved" / "c.dwg")
+        (self.plans / "c.dwg").symlink_to(self.folder / "moved" / "c.dwg")
+        ran = tool("dwg-recover", "--tree", self.out, self.plans)
+        self.assertEqual((ran.returncode, len(rows(ran.stdout))), (1, 1))
+        self.assertIn(b"2 outputs", ran.stderr)
+        self.assertIn(os.fsencode(f"{self.out}/plans/c.dwg"), ran.stderr)
 
 
 if __name__ == "__main__":

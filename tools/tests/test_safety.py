@@ -3,6 +3,9 @@
 from __future__ import annotations
 
 import collections
+import csv
+import io
+import json
 import os
 import random
 import re
@@ -190,7 +193,8 @@ class Outputs(common.InFolder):
                 data = given.read_bytes() if given else b""
                 ran = subprocess.run(said, input=data, capture_output=True, check=False, preexec_fn=limited_to(20), env=environment)
                 self.assertEqual((ran.returncode, ran.stdout), (status, b""), ran.stderr)
-                self.assertRegex(ran.stderr.decode(), rf"\A{tool_name}: {re.escape(name)}( can't be written|: File too large)\n\Z")
+                of = ("standard input: " if words == ["-"] else f"{words[0]}: ") if tool_name == "dwg-info" else ""
+                self.assertRegex(ran.stderr.decode(), rf"\A{tool_name}: {re.escape(of + name)}( can't be written|: File too large)\n\Z")
         # So is one that can't be made, whichever it is of those that a tool makes, and nothing is left of an output that isn't there.
         for tool_name, words, status in (("dwg-json", [path], 70), ("dwg-picture", [path], 70), ("dwg-info", [path], 70), ("dwg-diff", [path, path], 2), ("dwg-recover", [path, self.folder / "out"], 70)):
             for count in range(8):
@@ -200,7 +204,8 @@ class Outputs(common.InFolder):
                 if ran.returncode == 0:
                     break
                 there = (self.folder / "out").exists()
-                said = rf"\A{tool_name}: (the|a) temporary file( in \S+)?( can't be written)?: No space left on device{'; .*/out is there' if there else ''}\n\Z"
+                of = re.escape(f"{path}: ") if tool_name == "dwg-info" else ""
+                said = rf"\A{tool_name}: {of}(the|a) temporary file( in \S+)?( can't be written)?: No space left on device{'; .*/out is there' if there else ''}\n\Z"
                 self.assertEqual((ran.returncode, ran.stdout), (status, b""), (tool_name, count, ran.stderr))
                 self.assertRegex(ran.stderr.decode(), said, (tool_name, count))
                 self.assertEqual((self.folder / "out.notes").exists(), there)
@@ -210,6 +215,23 @@ class Outputs(common.InFolder):
         self.assertEqual((ran.returncode, ran.stdout), (70, b""), ran.stderr)
         self.assertTrue(ran.stderr.startswith(b"dwg-json: a temporary file: No usable temporary directory found in "), ran.stderr)
         self.assertEqual(sorted(os.listdir(self.folder)), ["a.dwg", "cut.dwg", "out", "out.notes", "temporary", "text"])
+
+    def test_a_temporary_file_that_is_full_at_its_last_bytes_ends_no_run(self) -> None:
+        """Rows of a drawing of which the last ones, which a buffer held, find no room any more, and which are read after all was shown."""
+        drawing, content = spelled.Drawing(), "x" * 2000
+        for _ in range(701):
+            drawing.text(content.encode(), (0, 0), 1)
+        (self.folder / "d").mkdir()
+        for name, data in (("a.dwg", drawn(2, 1)), ("b.dwg", drawing.file()), ("c.dwg", drawn(2, 1))):
+            self.file(f"d/{name}", data)
+        whole = list(csv.reader(io.StringIO(tool("dwg-info", "--texts", ".", self.folder / "d").stdout.decode())))
+        size = sum(len(json.dumps([int(row[1], 16), row[2], 1, row[4]])) + 1 for row in whole if row[0].endswith("b.dwg"))
+        others = [row for row in whole if not row[0].endswith("b.dwg")]
+        for most in (1 << 20, size - 9000, size - 200, size - 1):
+            said = [str(TOOLS / "dwg-info"), "--program", made.PROGRAM, "--texts", ".", str(self.folder / "d")]
+            ran = subprocess.run(said, capture_output=True, check=False, preexec_fn=limited_to(most))
+            self.assertEqual((ran.returncode, list(csv.reader(io.StringIO(ran.stdout.decode())))), (70, others), most)
+            self.assertRegex(ran.stderr.decode(), rf"\Adwg-info: {self.folder}/d/b.dwg: the temporary file in \S+: File too large\n\Z")
 
     def test_a_temporary_file_that_stays_is_told(self) -> None:
         """As in a folder to which files can only be added."""

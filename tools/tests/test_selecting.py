@@ -2,8 +2,10 @@
 
 from __future__ import annotations
 
+import fnmatch
 import json
 import os
+import random
 import subprocess
 import unittest
 from typing import Any, List
@@ -12,6 +14,7 @@ import common
 import made
 from made import tool
 
+from dwgtools.patterns import compiled, translated
 from dwgtools.walking import DRAWINGS, Walk, endings_of, pattern_of, walked
 
 made.needs_program()
@@ -164,6 +167,29 @@ class Lines(common.InFolder):
         ran = self.said("--quiet", "--ext", ".dwt,bak")
         self.assertEqual((ran.returncode, ran.stderr), (66, b"dwg-check: nothing was found to check; of folders only *.dwt, *.bak is taken, and --all takes every file\n"))
         self.assertEqual(self.said("--quiet", "--exclude", "*", "--all").stderr, b"dwg-check: nothing was found to check\n")
+
+
+class Translated(unittest.TestCase):
+    """Patterns of the shell as regular expressions."""
+
+    def test_as_the_library_has_them(self) -> None:
+        chance = random.Random(3)
+        parts = ["*", "**", "?", "[ab]", "[!a]", "[]a]", "[*?]", "[", "]", "a", "b", ".", "\\", "(", "$", "\n", "-"]
+        for _ in range(3000):
+            pattern = "".join(chance.choice(parts) for _ in range(chance.randrange(7)))
+            try:
+                form = compiled(pattern)
+            except ValueError:
+                self.assertRegex(pattern, r"\[.*-.*\]")
+                continue
+            for _ in range(10):
+                name = "".join(chance.choice("ab]*?[.-\n(\\$") for _ in range(chance.randrange(8)))
+                self.assertEqual(bool(form.match(name)), fnmatch.fnmatchcase(name, pattern), (pattern, name))
+
+    def test_a_star_is_tried_once(self) -> None:
+        """Python before 3.9 has it tried again for each other one."""
+        self.assertEqual(translated("*a*[*]*b"), r"(?s:(?=(?P<g0>.*?a))(?P=g0)(?=(?P<g1>.*?[*]))(?P=g1).*b)\Z")
+        self.assertIsNone(compiled("*-" * 20 + "b*").match("-" * 240))
 
 
 if __name__ == "__main__":

@@ -17,6 +17,7 @@ from typing import Any, Callable, Dict, List, Sequence, Tuple
 
 import common
 import made
+import spelled
 import test_limits
 from made import TOOLS, flipped, layout, made as drawn, program_that, tool
 
@@ -237,6 +238,43 @@ class Changed(common.InFolder):
                 ran = test_limits.otherwise(name, lines, "--program", made.PROGRAM, *more, *words, stdin=given)
             message = f"{name}: standard input: it was changed while it was read\n".encode()
             self.assertEqual((ran.returncode, ran.stdout, ran.stderr, out.exists()), (status, b"", message, False), said)
+
+    def swapping(self, path: Path, command: str, data: bytes) -> Path:
+        """A program that has a file have other bytes of the same size, and the time that it had, once it has answered a command the first time."""
+        later, stamp, once = self.file("later", data), self.file("stamp", b""), self.folder / "once"
+        shutil.rmtree(once, ignore_errors=True)
+        told = path.stat()
+        self.assertEqual(told.st_size, len(data))
+        os.utime(stamp, ns=(told.st_atime_ns, told.st_mtime_ns))
+        swap = f'"$REAL" "$1"; s=$?; cat "{later}" >"{path}"; touch -r "{stamp}" "{path}"; exit $s'
+        return program_that(self.folder, "swapping", [f'[ "$1" != {command} ] || ! mkdir "{once}" 2>/dev/null || {{ {swap}; }}', 'exec "$REAL" "$@"'])
+
+    def test_a_file_that_changes_with_its_size_and_time(self) -> None:
+        """What is told is that of one content, however often it is read."""
+        data, out = drawn(30, 3), self.folder / "out"
+        lines = []
+        for place in (1.5, 9.5):
+            one = spelled.Drawing()
+            one.line((place, 2.5, 0), (3.5, place, 0))
+            lines.append(one.file())
+        path, same, elsewhere = self.folder / "a.dwg", self.file("same.dwg", lines[0]), data[:13] + bytes(4) + data[17:]
+        readers: Dict[str, Tuple[List[object], str, bytes, bytes]] = {
+            "dwg-picture": ([path], "show", lines[0], lines[1]),
+            "dwg-info --json": ([path], "show", data, elsewhere),
+            "dwg-info --preview -": ([path], "sections", data, elsewhere),
+            "dwg-json": ([path], "show", lines[0], lines[1]),
+            "dwg-diff": ([path, same], "show", lines[0], lines[1]),
+            "dwg-recover": ([path, out], "recover", flipped(data, len(data) // 2), b"AC1014" + data[6:]),
+        }
+        for said, (words, command, before, later) in readers.items():
+            name, *more = said.split()
+            path.write_bytes(before)
+            expected = tool(name, *more, *words)
+            out.unlink(missing_ok=True)
+            (self.folder / "out.notes").unlink(missing_ok=True)
+            ran = tool(name, "--program", self.swapping(path, command, later), *more, *words)
+            self.assertEqual(path.read_bytes(), later, said)
+            self.assertEqual((ran.returncode, ran.stdout, ran.stderr), (expected.returncode, expected.stdout, expected.stderr), said)
 
     def test_standard_input_that_stays(self) -> None:
         path = self.file("a.dwg", b"before" + drawn(30, 3))

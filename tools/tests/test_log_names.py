@@ -1,0 +1,324 @@
+"""dwg-check --fixity: names that lead elsewhere, that are gone, or that no file can have, and what LOG has by them."""
+
+from __future__ import annotations
+
+import os
+import pathlib
+import shutil
+import subprocess
+import sys
+import time
+import unittest
+import unittest.mock
+from typing import Dict, List, Optional, Tuple
+
+import common
+import made
+import test_limits
+from made import TOOLS, program_that, tool
+
+from dwgtools import verdicts
+from dwgtools.log import Log
+from dwgtools.program import Program
+from dwgtools.verdicts import Checker
+
+made.needs_program()
+
+# Drawings by names, and one with findings, of which no certificate is kept.
+DATA = {"a.dwg": made.made(3), "b.dwg": made.made(4), "c.dwg": made.made(5)}
+
+
+class Names(common.InFolder):
+    """A folder with LOG beside it."""
+
+    maxDiff = None
+
+    def setUp(self) -> None:
+        super().setUp()
+        self.log = self.folder / "log"
+
+    def volume(self, name: str, *drawings: str) -> pathlib.Path:
+        """A folder with some of the drawings."""
+        (self.folder / name).mkdir()
+        for drawing in drawings:
+            self.file(f"{name}/{drawing}", DATA[drawing])
+        return self.folder / name
+
+    def keep(self, *words: object, given: bytes = b"", **more: str) -> List[str]:
+        """What a run tells on standard error that keeps what it finds, without the name of LOG."""
+        ran = tool("dwg-check", "--quiet", "--fixity", self.log, *words, given=given, **more)
+        return ran.stderr.decode().replace(f"dwg-check: {self.log}: ", "").replace(f"{self.folder}/", "").splitlines()
+
+    def compare(self, *words: object) -> Tuple[int, Dict[str, str]]:
+        """The status of a run that compares, and what each file is found to be."""
+        ran = tool("dwg-check", "--quiet", "--fixity", self.log, "--verify", *words)
+        lines = [line.split("\t") for line in ran.stdout.decode().replace(f"{self.folder}/", "").splitlines()[1:]]
+        self.assertEqual(len(lines), len({line[0] for line in lines}), ran.stdout)
+        return ran.returncode, {line[0]: f"{line[1]} {line[2]}".strip() for line in lines}
+
+    def test_a_folder_that_leads_elsewhere_while_a_file_is_read(self) -> None:
+        """Nobody knows then of which of both files the line is."""
+        one, other = self.volume("one", "a.dwg"), self.volume("other", "b.dwg")
+        os.rename(other / "b.dwg", other / "a.dwg")
+        (self.folder / "current").symlink_to("one")
+        switch = f"ln -sfn other {self.folder}/current.new && mv -T {self.folder}/current.new {self.folder}/current"
+        switching = program_that(self.folder, "switching", [f'[ "$1" != audit ] || {{ {switch}; }}', 'exec "$REAL" "$@"'])
+        for options in (["--resume", self.log], ["--fixity", self.log], ["--fixity", self.log, "--verify"]):
+            self.log.unlink(missing_ok=True)
+            if "--verify" in options:
+                self.assertEqual(self.keep(one), [])
+            (self.folder / "current").unlink()
+            (self.folder / "current").symlink_to("one")
+            made_by = ["--program", switching] if "--verify" not in options else ["--program", program_that(self.folder, "accepting", [f'[ "$1" != accept ] || {{ {switch}; }}', 'exec "$REAL" "$@"'])]
+            ran = tool("dwg-check", "--quiet", *made_by, *options, self.folder / "current" / "a.dwg")
+            # (a certificate would be of the other file)
+            why = "changed while it was checked" if options[0] == "--fixity" and "--verify" not in options else "its name led to another file while it was read"
+            self.assertIn(f"{self.folder}/current/a.dwg\tfailed\t{why}\t", ran.stdout.decode(), options)
+            self.assertEqual([line["path"] for line in made.read_log(self.log)[1:]], [str(one / "a.dwg")] if "--verify" in options else [], options)
+
+    def test_a_volume_that_is_away_is_not_forgotten_for_a_copy_elsewhere(self) -> None:
+        first, copy = self.volume("first", "a.dwg", "b.dwg"), self.volume("copy", "a.dwg", "b.dwg")
+        self.assertEqual(self.keep(first), [])
+        os.rename(first, self.folder / "off")
+        first.mkdir()
+        self.assertEqual(self.keep(copy), [])
+        missing = {f"first/{name}": "missing" for name in ("a.dwg", "b.dwg")}
+        self.assertEqual(self.compare(), (68, {"copy/a.dwg": "same", "copy/b.dwg": "same", **missing}))
+        first.rmdir()
+        os.rename(self.folder / "off", first)
+        (first / "a.dwg").write_bytes(made.flipped(DATA["a.dwg"], 300, 1))
+        self.assertEqual(self.compare()[1]["first/a.dwg"][:7], "changed")
+        # Where both are named it is told that one took the place of the other.
+        self.log.unlink()
+        self.assertEqual((self.keep(copy), self.keep("--forget", first)), ([], []))
+        os.rename(copy, self.folder / "moved")
+        self.assertEqual(self.keep(copy, self.folder / "moved"), ["2 of its files have other names now; the first is copy/a.dwg"])
+
+    def test_two_files_of_one_content_of_which_one_is_found_by_two_names(self) -> None:
+        """That is one file, which takes the place of one."""
+        volume = self.volume("d", "a.dwg")
+        self.file("d/y.dwg", DATA["a.dwg"])
+        (volume / "link.dwg").symlink_to("a.dwg")
+        self.assertEqual(self.keep(volume, volume / "link.dwg"), [])
+        os.rename(volume / "a.dwg", volume / "z.dwg")
+        (volume / "y.dwg").unlink()
+        (volume / "link.dwg").unlink()
+        (volume / "link.dwg").symlink_to("z.dwg")
+        status, found = self.compare(volume)
+        self.assertEqual((status, sorted(said.split()[0] for said in found.values())), (68, ["missing", "moved", "same"]), found)
+        told = ["1 of its files have other names now; the first is d/a.dwg", "1 of its files are gone, which it keeps (--forget has it forget them); the first is d/y.dwg"]
+        self.assertEqual(self.keep(volume, volume / "z.dwg", volume / "link.dwg"), told)
+        self.assertEqual(self.compare(volume)[1]["d/y.dwg"], "missing")
+
+    def test_names_by_links_that_are_gone(self) -> None:
+        """Of a link to a file that is there, and of one below a folder that is named to a file elsewhere that is gone."""
+        first, second = self.volume("first", "a.dwg", "b.dwg"), self.volume("second", "a.dwg")
+        (self.folder / "current").symlink_to("first")
+        self.assertEqual(self.keep(self.folder / "current"), [])
+        (self.folder / "current").unlink()
+        (self.folder / "current").symlink_to("second")
+        self.assertEqual(self.compare(self.folder / "current")[1]["current/b.dwg"], "missing")
+        self.assertEqual(self.compare()[0], 68)
+        gone = "1 of its files are gone, {}; the first is current/b.dwg".format
+        self.assertEqual(self.keep(self.folder / "current"), [gone("which it keeps (--forget has it forget them)")])
+        self.assertEqual(self.keep("--forget", self.folder / "current"), [gone("and it has them no more")])
+        self.assertEqual(self.compare(), (0, {"first/a.dwg": "same", "first/b.dwg": "same", "current/a.dwg": "same"}))
+        self.log.unlink()
+        archive = self.volume("archive", "c.dwg")
+        (archive / "link").symlink_to(second)
+        self.assertEqual(self.keep("--follow", archive), [])
+        (second / "a.dwg").unlink()
+        self.assertEqual(self.compare(), (68, {"archive/c.dwg": "same", "archive/link/a.dwg": "missing"}))
+        told = "1 of its files are gone, {}; the first is second/a.dwg".format
+        self.assertEqual(self.keep("--follow", archive), [told("which it keeps (--forget has it forget them)")])
+        self.assertEqual(self.keep("--follow", "--forget", archive), [told("and it has them no more")])
+        self.assertEqual((self.compare(), self.keep("--follow", archive)), ((0, {"archive/c.dwg": "same"}), []))
+
+    def test_a_file_that_could_not_be_read_and_is_gone(self) -> None:
+        volume = self.volume("d", "a.dwg")
+        os.mkfifo(volume / "odd.dwg")
+        self.assertEqual(self.keep(volume, volume / "odd.dwg"), [])
+        (volume / "odd.dwg").unlink()
+        self.assertEqual(self.compare(), (68, {"d/a.dwg": "same", "d/odd.dwg": "missing"}))
+        # By its whole name, where LOG has it by one of another folder.
+        head, *lines = made.read_log(self.log)
+        self.log.write_bytes(made.log_of([head, *({**line, "path": os.path.relpath(line["path"], self.folder)} for line in lines)]))
+        ran = tool("dwg-check", "--quiet", "--fixity", self.log, "--verify")
+        self.assertEqual([line.split(b"\t")[:2] for line in ran.stdout.splitlines()[1:]], [[os.fsencode(volume / name), said] for name, said in (("a.dwg", b"same"), ("odd.dwg", b"missing"))])
+        gone = "1 of its files are gone, {}; the first is d/odd.dwg".format
+        self.assertEqual(self.keep(volume), [gone("which it keeps (--forget has it forget them)")])
+        self.assertEqual(self.keep("--forget", volume), [gone("and it has them no more")])
+        self.assertEqual((self.compare(), self.keep(volume)), ((0, {"d/a.dwg": "same"}), []))
+        # A name that nothing ever had isn't missed.
+        self.keep(volume, self.folder / "never.dwg")
+        self.assertEqual(self.compare(), (0, {"d/a.dwg": "same"}))
+
+    def test_contents_that_are_taken_in_place_of_others_are_told(self) -> None:
+        volume = self.volume("d", "a.dwg", "b.dwg")
+        self.assertEqual(self.keep(volume), [])
+        for name in ("a.dwg", "b.dwg"):
+            (volume / name).write_bytes(DATA[name][:-5])
+        told = ["2 of its files have another content now, which it takes; the first is d/a.dwg"]
+        self.assertEqual((self.keep(volume, volume / "a.dwg"), self.keep(volume)), (told, []))
+        # Also of an earlier state, which LOG knows by its size and time.
+        path = volume / "b.dwg"
+        for index, data in enumerate((DATA["b.dwg"], DATA["c.dwg"], DATA["b.dwg"], DATA["c.dwg"])):
+            path.write_bytes(data)
+            os.utime(path, ns=(0, 10**18 + len(data)))
+            self.assertEqual(self.keep(volume), [told[0].replace("2 of", "1 of").replace("a.dwg", "b.dwg")], index)
+            self.assertEqual((self.keep(volume), self.compare()[0]), ([], 0))
+
+    def test_a_link_that_leads_to_nothing_forgets_nothing(self) -> None:
+        """What it led to is no folder of the words, though LOG has files there."""
+        archive, other = self.volume("archive", "a.dwg"), self.volume("other", "b.dwg")
+        self.keep(archive, other)
+        (archive / "l").symlink_to(other)
+        os.rename(other, self.folder / "away")
+        self.assertEqual(self.keep("--all", "--follow", "--forget", archive), [])
+        os.rename(self.folder / "away", other)
+        self.assertEqual(self.compare()[1]["other/b.dwg"], "same")
+        # Of a name below what is no folder any more the file is gone.
+        name = os.fsencode(other / "b.dwg") + b"\n"
+        os.rename(other, self.folder / "away")
+        other.write_bytes(b"")
+        gone = "1 of its files are gone, {}; the first is other/b.dwg".format
+        self.assertEqual(self.keep("-", given=name), [gone("which it keeps (--forget has it forget them)")])
+        self.assertEqual(self.keep("--forget", "-", given=name), [gone("and it has them no more")])
+
+    def test_what_log_has_no_line_of_takes_the_place_of_nothing(self) -> None:
+        volume = self.volume("d", "a.dwg", "b.dwg")
+        self.keep(volume)
+        os.rename(volume / "a.dwg", volume / ("z" * 200 + ".dwg"))
+        with open(self.log, "rb") as file:
+            longest = max(map(len, file))
+        shortened = f"from dwgtools import log; log.LONGEST = {longest + 100}"
+        ran = test_limits.otherwise("dwg-check", shortened, "--program", made.PROGRAM, "--quiet", "--fixity", self.log, volume)
+        kept = "1 of its files are gone, which it keeps (--forget has it forget them)"
+        said = f"a line of more than {longest + 100} bytes isn't kept, that of {volume}/{'z' * 200}.dwg"
+        self.assertEqual(ran.stderr.decode(), f"dwg-check: {self.log}: {said}\ndwg-check: {self.log}: {kept}; the first is {volume}/a.dwg\n")
+        self.assertEqual(sorted(said.split()[0] for said in self.compare(volume)[1].values()), ["moved", "same"])
+
+    def test_a_folder_that_could_not_be_read_once(self) -> None:
+        """It has a line, and is no file that is compared."""
+        volume = self.volume("d", "a.dwg")
+        self.keep(volume)
+        head, line = made.read_log(self.log)
+        lost = {**line, "path": str(volume), "absolute": str(volume), "verdict": "unreadable", "detail": "Permission denied", "version": "", "refusal": None}
+        lost.update({name: None for name in ("findings", "bytes", "trailing", "mtime_ns", "sha256", "preview")})
+        self.log.write_bytes(made.log_of([head, lost, line]))
+        self.assertEqual(self.compare(), (0, {"d/a.dwg": "same"}))
+        self.assertEqual(self.compare(volume), (0, {"d/a.dwg": "same"}))
+
+    def test_a_file_with_a_lease(self) -> None:
+        """It is asked for until the lease is given up, and what stands at its name then is opened as any other."""
+        path, opened = self.file("a.dwg", DATA["a.dwg"]), os.open
+        for becomes, said in ((None, ("sound", "")), ("pipe", ("unreadable", "no regular file"))):
+            asked: List[str] = []
+
+            def leased(name: str, flags: int, *more: int, becomes: Optional[str] = becomes, asked: List[str] = asked) -> int:
+                if name != str(path) or len(asked) == 3:
+                    return opened(name, flags, *more)
+                self.assertTrue(flags & os.O_NONBLOCK)
+                asked.append(name)
+                if becomes and len(asked) == 3:
+                    path.unlink()
+                    os.mkfifo(path)
+                raise BlockingIOError(11, "Resource temporarily unavailable")
+
+            with unittest.mock.patch("os.open", leased), unittest.mock.patch.object(verdicts, "BETWEEN", 0.01):
+                row = Checker(Program(made.PROGRAM)).check(str(path))
+            self.assertEqual(((row.verdict, row.detail), len(asked)), (said, 3))
+
+    def test_folders_that_are_read_by_name(self) -> None:
+        """What is gone from them is told, moved and forgotten as where they are words."""
+        volume = self.volume("d", *DATA)
+        names = os.fsencode(volume) + b"\n"
+        self.assertEqual(self.keep("-", given=names), [])
+        os.rename(volume / "a.dwg", volume / "z.dwg")
+        (volume / "b.dwg").unlink()
+        gone = "1 of its files are gone, {}; the first is d/b.dwg".format
+        told = ["1 of its files have other names now; the first is d/a.dwg", gone("which it keeps (--forget has it forget them)")]
+        self.assertEqual(self.keep("-", given=names), told)
+        self.assertEqual(self.keep("--forget", "-", given=names), [gone("and it has them no more")])
+        self.assertEqual(self.compare(), (0, {"d/c.dwg": "same", "d/z.dwg": "same"}))
+        # Also of a folder that is gone itself.
+        shutil.rmtree(volume)
+        for option, what in (("--quiet", "which it keeps (--forget has it forget them)"), ("--forget", "and it has them no more")):
+            self.assertEqual(self.keep(option, "-", given=names), [f"2 of its files are gone, {what}; the first is d/c.dwg"])
+
+    def test_files_of_which_there_is_no_content_are_compared(self) -> None:
+        """Without words too: of one that couldn't be read, and still can't be."""
+        volume = self.volume("d", "a.dwg")
+        os.mkfifo(volume / "odd.dwg")
+        self.keep(volume, volume / "odd.dwg")
+        self.assertEqual(self.compare(), (68, {"d/a.dwg": "same", "d/odd.dwg": "unreadable no regular file"}))
+        (volume / "odd.dwg").unlink()
+        self.file("d/odd.dwg", DATA["b.dwg"])
+        self.assertEqual(self.compare(), (0, {"d/a.dwg": "same", "d/odd.dwg": "new sound"}))
+
+    def test_no_word_names_no_folder(self) -> None:
+        volume = self.volume("d", "a.dwg", "b.dwg")
+        self.keep(volume)
+        (volume / "b.dwg").unlink()
+        said = [sys.executable, str(TOOLS / "dwg-check"), "--quiet", "--fixity", str(self.log), "--forget", ""]
+        ran = subprocess.run(said, cwd=volume, stdin=subprocess.DEVNULL, capture_output=True, check=False)
+        self.assertEqual((ran.returncode, ran.stderr), (1, b""))
+        self.assertEqual(self.compare()[1]["d/b.dwg"], "missing")
+
+    def test_a_file_that_may_have_changed_since_it_was_read_is_read_again(self) -> None:
+        """One whose time is that of the clock, in whole seconds as some file systems tell it, is another with the same time a moment later."""
+        volume = self.volume("d", "a.dwg")
+        path = volume / "a.dwg"
+        checker = Checker(Program(made.PROGRAM))
+        at = 10**18
+        for mtime, later, is_settled in ((at, 10**9, False), (at, 3 * 10**9, True), (at + 10**7, 10**9, False), (at + 1, 10**7, False), (at + 1, 10**8, True), (at + 10**11, 0, False), (at + 10**15, 0, True)):
+            with unittest.mock.patch.object(verdicts.time, "time_ns", return_value=at + later):
+                self.assertEqual(verdicts.is_settled(mtime), is_settled, (mtime, later))
+        soon = lambda: time.time_ns() // 10**9 * 10**9 + 10**12
+        now = soon()
+        os.utime(path, ns=(now, now))
+        row = checker.check(str(path))
+        self.assertEqual((row.verdict, row.mtime_ns, row.settled), ("sound", now, False))
+        for option in ("--resume", "--fixity"):
+            log = self.folder / f"log{option}"
+            run = lambda log=log, option=option: tool("dwg-check", option, log, path)
+            path.write_bytes(DATA["a.dwg"])
+            now = soon()
+            os.utime(path, ns=(now, now))
+            self.assertEqual(run().returncode, 0)
+            path.write_bytes(made.flipped(DATA["a.dwg"], 300, 1))
+            os.utime(path, ns=(now, now))
+            ran = run()
+            self.assertEqual((ran.returncode, ran.stdout.split(b"\t")[7]), (1, b"damaged"), option)
+            # What is older is known by its size and time.
+            os.utime(path, ns=(10**18, 10**18))
+            self.assertIn(b"1 unread", (run(), run())[1].stderr)
+
+    def test_names_that_no_file_can_have_take_no_time_in_log(self) -> None:
+        long = "a/" * 32000 + "x.dwg"
+        ran = tool("dwg-check", "--quiet", "--resume", self.log, "-", given=f"{long}\n".encode() * 3)
+        self.assertEqual((ran.returncode, ran.stdout.count(b"\tunreadable\tFile name too long\t")), (1, 3))
+        self.assertEqual(len(made.read_log(self.log)), 1)
+        log = Log(str(self.log), self.fail)
+        # (of each of its folders it would be asked whether that is a link)
+        with unittest.mock.patch("os.lstat", side_effect=AssertionError), unittest.mock.patch("os.readlink", side_effect=AssertionError):
+            self.assertEqual(log.name_of(f"/{long}"), f"/{long}")
+        log.close()
+
+    def test_the_name_of_one_certificate_keeps_no_other_away(self) -> None:
+        volume = self.volume("d", *DATA)
+        self.keep(volume)
+        certificates = self.folder / "log.certificates"
+        names = sorted(path.name for path in certificates.iterdir())
+        shutil.rmtree(certificates)
+        certificates.mkdir()
+        (certificates / names[0]).mkdir()
+        (certificates / names[1]).symlink_to(names[1])
+        ran = tool("dwg-check", "--quiet", "--fixity", self.log, volume)
+        self.assertEqual(ran.returncode, 70)
+        self.assertEqual(sorted(ran.stderr.decode().splitlines()), [f"dwg-check: {certificates}: {name} is no regular file" for name in names[:2]])
+        self.assertEqual([path.name for path in certificates.iterdir() if path.is_file()], [names[2]])
+
+
+if __name__ == "__main__":
+    unittest.main()
