@@ -13,7 +13,7 @@ from typing import IO, Any, Callable, Deque, Dict, Iterable, Iterator, List, Opt
 from .certificates import Certificates, refusal_of
 from .escapes import one_line
 from .inputs import bytes_of
-from .log import LED_ELSEWHERE, Contents, Links, Places, content_of, is_gone, open_log, read_row, refuse_file, spelled_name
+from .log import LED_ELSEWHERE, Contents, Links, Places, content_of, is_away, is_gone, open_log, read_row, refuse_file, spelled_name
 from .log_lines import take_lines
 from .program import Program, ProgramFailed
 from .rows import Row, as_object
@@ -136,7 +136,7 @@ class Comparer(Checker):
         if self._kept.name_of(one.path) != name:
             found = Row(one.path, "failed", LED_ELSEWHERE)
         row = found if isinstance(found, Compared) else Compared(**vars(found), kept=kept, is_new=kept is None)
-        if row.verdict == "unreadable" and kept is not None and is_gone(one.path):
+        if row.verdict == "unreadable" and kept is not None and is_away(one.path):
             row.verdict, row.detail = "missing", ""
         return row
 
@@ -206,19 +206,19 @@ def planned(found: Iterable[Named], kept: Kept) -> Tuple[List[Named], List[Row]]
         name = kept.name_of(one.path)
         own = name if kept.led_to(one.path) is None else spelled_name(one.path)
         # (a word may name a file that is missing)
-        if own not in seen and not (name in kept and is_gone(one.path)):
+        if own not in seen and not (name in kept and is_away(one.path)):
             seen.add(own)
             plan.append(one)
-    plan += [Named(link) for link in sorted(kept.links.keys() - seen, key=os.fsencode) if kept.led_to(link) is not None and not is_gone(link)]
+    plan += [Named(link) for link in sorted(kept.links.keys() - seen, key=os.fsencode) if kept.led_to(link) is not None and not is_away(link)]
     # (a folder that couldn't be read has a line too)
     rest = sorted({*kept, *(name for name in kept.without if not os.path.isdir(name))} - seen, key=os.fsencode)
-    gone = set(filter(is_gone, rest))
+    gone = {name for name in rest if (is_away if name in kept else is_gone)(name)}
     return [*plan, *(Named(kept.named(name).path) for name in rest if name not in gone)], [kept.named(name) for name in rest if name in gone and name in kept]
 
 
 def lost_names(kept: Kept) -> List[Row]:
     """The lines of names at which nothing is, though LOG has them: of links to files that are there, and of files of which it has no content."""
-    links = (replace(kept[name], path=link) for link, name in kept.links.items() if name in kept and is_gone(link) and not is_gone(name))
+    links = (replace(kept[name], path=link) for link, name in kept.links.items() if name in kept and is_away(link) and not is_away(name))
     files = (kept.named(name) for name in kept.without if is_gone(name))
     return [Compared(row.path, "missing", kept=row) for row in (*links, *files)]
 

@@ -12,7 +12,7 @@ import sys
 import threading
 from dataclasses import replace
 from functools import partial
-from typing import IO, Callable, ContextManager, Iterator, List, Optional, Set, Tuple
+from typing import IO, Callable, ContextManager, Iterator, List, Optional, Sequence, Set, Tuple
 
 from . import verdicts
 from .crew import in_order
@@ -209,7 +209,15 @@ class Growing(Checker):
         line.made = made
         self.tree.add(line)
         self.tree.stands(line)
+        self.written([Spot(self.out), *([] if made.notes is None else [Spot(self.notes)])])
         self.say(line, made)
+
+    def written(self, spots: Sequence[Spot]) -> None:
+        """Takes note of outputs that are those of this run."""
+        for spot in spots:
+            told = spot.there(spot.name)
+            if told is not None:
+                self.grower.written.add((told.st_dev, told.st_ino))
 
     def say(self, line: Line, made: Made) -> None:
         """Has the line say what stands below OUT."""
@@ -290,7 +298,7 @@ class Growing(Checker):
             return False
         if there is None:
             return False
-        if not self.grower.options.force and not self.tree.is_own(self.one.name + ".notes", there, self.one.path):
+        if not self.grower.options.force and not self.tree.is_own(self.one.name + ".notes", there, self.one.path, notes.there(notes.name)):
             raise Refused(f"{self.notes} is there already, and isn't what a run left there; --force removes it")
         return True
 
@@ -304,12 +312,17 @@ class Growing(Checker):
             self.may_replace(file, line, made, files)
             line.made = made
             self.tree.add(line)
-            place()
+            if self.tree.fault and any(whole.force for whole, _ in files):
+                # (later it would be the output that LOG doesn't know)
+                raise ToolError(f"{self.out} is left as it is, since the log can't be written: {self.tree.fault}", Status.WRITE_FAULT)
+            try:
+                place()
+            except BaseException:
+                # (what stood there stands there again, and was touched)
+                self.tree.keep(line)
+                raise
             self.tree.stands(line)
-            for whole, _ in files:
-                told = whole.there(whole.name)
-                if told is not None:
-                    self.grower.written.add((told.st_dev, told.st_ino))
+            self.written([whole for whole, _ in files])
             self.say(line, made)
 
     def may_replace(self, file: IO[bytes], line: Line, made: Made, files: List[Tuple[WholeFile, str]]) -> None:
@@ -322,7 +335,7 @@ class Growing(Checker):
             if (state.st_dev, state.st_ino) in self.grower.written:
                 raise Refused(f"{whole.path} is what this run has written of another file")
             name = self.one.name if whole.path == self.out else self.one.name + ".notes"
-            if there != digest and not self.tree.is_own(name, there, self.one.path) and not self.grower.options.force:
+            if there != digest and not self.tree.is_own(name, there, self.one.path, state) and not self.grower.options.force:
                 raise Refused(f"{whole.path} is there already, and isn't what a run left there; --force replaces it")
             if there != digest and self.tree.is_of(name, there, line.sha256) and not self.grower.options.force:
                 raise Refused(f"{whole.path} is of the same content, by another program; --force replaces it")

@@ -40,6 +40,9 @@ NOTHING_THERE = {GONE, NO_FOLDER, os.strerror(errno.ENAMETOOLONG)}
 # By what LOG can't be written, though it could be opened: what is found is told all the same.
 FULL = (errno.ENOSPC, errno.EDQUOT, errno.EIO, errno.EFBIG)
 
+# The time of a line that has none, which no file has.
+UNTIMED = -(1 << 96)
+
 # What is said of a file whose name was another before than after it was read.
 LED_ELSEWHERE = "its name led to another file while it was read"
 
@@ -113,6 +116,15 @@ def is_gone(path: str) -> bool:
     except (OSError, ValueError):
         return False
     return False
+
+
+def is_away(path: str) -> bool:
+    """Whether no file has a name that one had: nothing has it, or a folder or what else is no file. (A link that leads to nothing may lead there
+    again.)"""
+    try:
+        return not stat.S_ISREG(os.stat(path).st_mode)
+    except (OSError, ValueError):
+        return is_gone(path)
 
 
 class Places:
@@ -388,7 +400,7 @@ class Log:
         if row.verdict == "unreadable":
             self._unreadable.add((absolute, row.detail))
         elif row.bytes is not None:
-            key = (absolute, row.bytes, row.mtime_ns or 0)
+            key = (absolute, row.bytes, UNTIMED if row.mtime_ns is None else row.mtime_ns)
             self._latest[absolute] = key
             # (one that was gone is there again)
             self._unreadable.discard((absolute, GONE))
@@ -440,9 +452,11 @@ class Log:
         return row
 
     def _see_other(self, name: str, row: Row) -> None:
-        """Takes note of a file that has another content than LOG had last, and not by itself."""
-        if name in self._before and row.sha256 and content_of(row) != content_of(self._before[name]):
-            self.others.add(name)
+        """Takes note of a file that has another content than LOG had last by its name, and not by itself; also of a link that led to another file."""
+        link = spelled_name(row.path) if self._links else name
+        led_to = self._links.get(link, name)
+        if led_to in self._before and row.sha256 and content_of(row) != content_of(self._before[led_to]):
+            self.others.add(name if led_to == name else link)
 
     def _has_link(self, path: str, name: str) -> bool:
         """Whether LOG has it that a path leads to a file, where it does so by a link."""
@@ -466,9 +480,13 @@ class Log:
         names = {*self._before, *self._before.without, *self._links}
         # (many files stand in one folder)
         folders = {folder for folder in {os.path.dirname(name) for name in names} if is_among(folder, tops) or is_among(absolute_name(folder), tops)}
-        found = {name for name in names if (name in tops or os.path.dirname(name) in folders) and is_gone(name)}
+        found = {name for name in names if (name in tops or os.path.dirname(name) in folders) and self._is_away(name)}
         files = {self._links.get(name, name) for name in found}
-        return sorted({name for name in files if is_gone(name)} | {name for name in found if not is_gone(self._links.get(name, name))})
+        return sorted({name for name in files if self._is_away(name)} | {name for name in found if not self._is_away(self._links.get(name, name))})
+
+    def _is_away(self, name: str) -> bool:
+        """Whether what LOG has by a name isn't there any more; of what could never be read, as a folder, whether anything is."""
+        return is_gone(name) if name in self._before.without else is_away(name)
 
     def forget(self, names: Iterable[str]) -> None:
         """Has LOG have files no more, nor links that led to them."""

@@ -298,6 +298,17 @@ def refuse_output(path: Optional[str], force: bool, sources: Sequence[Optional[s
         raise ToolError(f"{name} is there already; --force replaces it", Exit.EXISTS)
     if not stat.S_ISREG(found.st_mode):
         raise ToolError(f"{name} is no regular file, and --force replaces no other", Exit.EXISTS)
+    if not is_listed(path):
+        raise ToolError(f"{name} is there by another name, which --force doesn't replace", Exit.EXISTS)
+
+
+def is_listed(path: str) -> bool:
+    """Whether a folder has a name as it is spelled: a file system may take it for one that differs, as by small letters; a folder that can't be read
+    is believed."""
+    try:
+        return os.path.basename(path) in os.listdir(os.path.dirname(path) or os.curdir)
+    except OSError:
+        return True
 
 
 @contextlib.contextmanager

@@ -41,7 +41,8 @@ def texts_in(drawing: Drawing, pattern: "re.Pattern[str]") -> Iterator[Dict[str,
         for one in found:
             names.take(one)
             for content in contents_of(one, page):
-                if not pattern.search(content) and not pattern.search(unescaped(content)):
+                plain = unescaped(content)
+                if not pattern.search(content) and (plain == content or not pattern.search(plain)):
                     continue
                 rows.put(one.handle, type_name(one, classes), one.target("layer"), content)
     return ({"handle": f"{handle:X}", "kind": kind, "layer": name_of(names, layer, page), "text": content} for handle, kind, layer, content in rows)

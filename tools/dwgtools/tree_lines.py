@@ -51,6 +51,8 @@ class Made:
     mapped: Optional[bool] = None
     # Whether it stands for certain, which LOG tells where runs wrote other outputs of the file before.
     placed: Optional[bool] = None
+    # When it was about to be placed, in nanoseconds since 1970: what is newer at its name somebody put there.
+    at_ns: Optional[int] = None
 
     @property
     def is_whole(self) -> bool:

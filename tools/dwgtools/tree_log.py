@@ -3,6 +3,7 @@
 from __future__ import annotations
 
 import os
+import time
 from dataclasses import dataclass, fields, replace
 from typing import Any, Callable, Dict, List, Optional, Set, Tuple
 
@@ -41,9 +42,11 @@ def read_made(told: Any) -> Optional[Made]:
         raise NoLine
     if not all(told.get(name) is None or isinstance(told[name], bool) for name in ("mapped", "placed")):
         raise NoLine
+    if not (told.get("at_ns") is None or is_number(told["at_ns"])):
+        raise NoLine
     numbers: Dict[str, Any] = {name: told.get(name) for name in NUMBERS}
     # (older tools didn't tell whether it stood for certain: what stood there before may have been put back)
-    return Made(told["output"], told["sha256"], told.get("notes"), parts=told["parts"], mapped=told.get("mapped"), placed=told.get("placed", True), **numbers)
+    return Made(told["output"], told["sha256"], told.get("notes"), parts=told["parts"], mapped=told.get("mapped"), placed=told.get("placed", True), at_ns=told.get("at_ns"), **numbers)
 
 
 class TreeLog(Log):
@@ -55,6 +58,7 @@ class TreeLog(Log):
         self._of_content: Dict[str, Made] = {}
         self._own: Dict[Tuple[str, str], Set[str]] = {}
         self._last: Dict[str, Made] = {}
+        self._at_ns: Dict[str, int] = {}
         self._whole: Set[Tuple[str, str]] = set()
         # Of which file the last output of each name is.
         self._source_of: Dict[str, str] = {}
@@ -70,7 +74,7 @@ class TreeLog(Log):
         self._note(made, told["absolute"], told.get("sha256"))
         # What another program recovered, this one may recover otherwise; and an older LOG doesn't tell all of it.
         if is_current and made.mapped is not None and made.notes is not None and isinstance(told.get("sha256"), str):
-            self._of_content[told["sha256"]] = replace(made, placed=None)
+            self._of_content[told["sha256"]] = replace(made, placed=None, at_ns=None)
 
     def _note(self, made: Made, source: str, content: Optional[str]) -> None:
         """Knows again what was written of a file of such a name and content, and under which names."""
@@ -87,7 +91,8 @@ class TreeLog(Log):
                 self._contents_of.setdefault((name, digest), set()).add(content or "")
         if made.is_whole:
             self._whole.add((made.output, made.sha256))
-        self._last[made.output] = replace(made, placed=None)
+        self._last[made.output] = replace(made, placed=None, at_ns=None)
+        self._at_ns[made.output] = made.at_ns or 0
 
     def recovered_of(self, digest: Optional[str]) -> Optional[Made]:
         """What this program recovered of a content."""
@@ -101,10 +106,13 @@ class TreeLog(Log):
                 found.setdefault(name, []).append(source)
         return found
 
-    def is_own(self, name: str, digest: str, source: str) -> bool:
+    def is_own(self, name: str, digest: str, source: str, there: Optional[os.stat_result]) -> bool:
         """Whether a run wrote a file of such a name and content below OUT, of this source and no other, and none has put another in its place: it is what
-        was written last, or what stood there where that was never placed."""
-        return digest in self._own.get((name, self._places.name_of(source)), ())
+        was written last, or what stood there before where that was never placed, and nobody touched since. (Notes follow their drawing.)"""
+        if digest not in self._own.get((name, self._places.name_of(source)), ()):
+            return False
+        last = self._last.get(name)
+        return last is None or digest == last.sha256 or there is not None and there.st_ctime_ns <= self._at_ns[name]
 
     def is_of(self, name: str, digest: str, content: Optional[str]) -> bool:
         """Whether a run wrote a file of such a name and content below OUT, of a source of this content."""
@@ -120,7 +128,11 @@ class TreeLog(Log):
         is_known = line.sha256 is None or line.verdict == "failed" or self.of_content(line.sha256) is not None
         if is_known and (line.made is None or self._last.get(line.made.output) == line.made):
             return
-        self._keep(line, line.made)
+        self.keep(line)
+
+    def keep(self, line: Line) -> None:
+        """Keeps what is known of a content, and what is about to be placed of it."""
+        self._keep(line, None if line.made is None else replace(line.made, at_ns=time.time_ns()))
 
     def stands(self, line: Line) -> None:
         """Keeps it that what was written of a file stands, where runs wrote other outputs of it before."""

@@ -11,7 +11,7 @@ from dataclasses import dataclass
 from typing import Dict, Iterable, Iterator, List, Optional, Set, Tuple
 
 from .escapes import one_line
-from .log import absolute_name, is_gone
+from .log import absolute_name, is_away
 from .statuses import Exit, ToolError
 from .streams import as_file, is_one_file, is_standard, outputs, refuse_streams
 from .walking import Named, Walk, below, status_of, walk_of, walked
@@ -145,8 +145,8 @@ def planned(options: argparse.Namespace) -> List[Planned]:
 
 
 def is_passed(source: str) -> bool:
-    """Whether a file has no line: it is there no more, or became a link or stands beyond one, which isn't followed."""
-    return is_gone(source) or absolute_name(source) != source
+    """Whether a file has no line: it is there no more, or became a folder or a link or stands beyond one, which isn't followed."""
+    return is_away(source) or absolute_name(source) != source
 
 
 def left_behind(found: Iterable[Planned], written: Dict[str, List[str]], options: argparse.Namespace) -> Iterator[str]:

@@ -325,7 +325,7 @@ class Fixity(common.InFolder):
         self.file("d/deep", b"")
         (self.archive / "b.dwg").unlink()
         ran = self.compare(self.archive / "b.dwg", self.archive)
-        expected = [["a.dwg", "unreadable", "no regular file"], ["x.dwg", "same", ""], ["b.dwg", "missing", ""], ["deep/c.dwg", "missing", ""]]
+        expected = [["x.dwg", "same", ""], ["a.dwg", "missing", ""], ["b.dwg", "missing", ""], ["deep/c.dwg", "missing", ""]]
         self.assertEqual((ran.returncode, self.said(ran)), (68, expected))
 
     def test_a_file_that_changes_while_it_is_read(self) -> None:
@@ -669,18 +669,16 @@ class Fixity(common.InFolder):
         self.assertEqual((ran.returncode, ran.stdout, ran.stderr), (66, b"", f"dwg-check: {self.log} has no file\n".encode()))
 
     def test_a_night_in_which_nothing_can_run(self) -> None:
-        """It doesn't end as if all were the same: where no tool begins, and where nothing can be written beside LOG."""
+        """It doesn't end as if all were the same: where no tool begins, and where nothing can be written. Nothing of it is left."""
+        temporary = self.folder / "temporary"
+        temporary.mkdir()
         self.keep()
         (self.archive / "b.dwg").unlink()
         self.assertEqual(self.night().returncode, 68)
         (self.archive / "b.dwg").write_bytes(self.data["b.dwg"])
         self.assertEqual(self.night().returncode, 0)
-        for place in (self.folder / "log.night", self.folder / "log.table"):
-            place.unlink()
-            place.mkdir()
-            self.assertGreater(self.night().returncode, 0)
-            place.rmdir()
-            self.assertEqual(self.night().returncode, 0)
+        self.assertGreater(self.night(TMPDIR=str(self.folder / "nowhere")).returncode, 0)
+        self.assertEqual((self.night(TMPDIR=str(temporary)).returncode, list(temporary.iterdir())), (0, []))
         for failing in ('exit 1', '[ "$*" != "${*#*--verify}" ] || exit 1; exec "$REAL_CHECK" "$@"'):
             folder = self.folder / "failing"
             folder.mkdir(exist_ok=True)

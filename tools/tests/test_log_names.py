@@ -110,6 +110,26 @@ class Names(common.InFolder):
         self.assertEqual(self.keep(volume, volume / "z.dwg", volume / "link.dwg"), told)
         self.assertEqual(self.compare(volume)[1]["d/y.dwg"], "missing")
 
+    def test_a_name_at_which_no_file_stands_any_more(self) -> None:
+        """A folder has it, and perhaps the file in it, or a pipe."""
+        volume = self.volume("d", *DATA)
+        self.keep(volume)
+        os.rename(volume / "a.dwg", self.folder / "a.dwg")
+        (volume / "a.dwg").mkdir()
+        os.rename(self.folder / "a.dwg", volume / "a.dwg" / "a.dwg")
+        (volume / "b.dwg").unlink()
+        os.mkfifo(volume / "b.dwg")
+        expected = {"d/a.dwg/a.dwg": "moved d/a.dwg -> d/a.dwg/a.dwg", "d/b.dwg": "missing", "d/c.dwg": "same"}
+        for words in ([volume], [volume, volume / "b.dwg"]):
+            self.assertEqual(self.compare(*words), (68, expected), words)
+        gone = "1 of its files are gone, {}; the first is d/b.dwg".format
+        self.assertEqual(self.keep(volume), ["1 of its files have other names now; the first is d/a.dwg", gone("which it keeps (--forget has it forget them)")])
+        self.assertEqual(self.keep("--forget", volume), [gone("and it has them no more")])
+        self.assertEqual(self.compare(), (0, {"d/a.dwg/a.dwg": "same", "d/c.dwg": "same"}))
+        self.assertEqual(self.compare(volume)[1]["d/b.dwg"], "unreadable no regular file")
+        (volume / "b.dwg").unlink()
+        self.assertEqual(self.compare(volume)[0], 0)
+
     def test_names_by_links_that_are_gone(self) -> None:
         """Of a link to a file that is there, and of one below a folder that is named to a file elsewhere that is gone."""
         first, second = self.volume("first", "a.dwg", "b.dwg"), self.volume("second", "a.dwg")
@@ -255,6 +275,35 @@ class Names(common.InFolder):
         (volume / "odd.dwg").unlink()
         self.file("d/odd.dwg", DATA["b.dwg"])
         self.assertEqual(self.compare(), (0, {"d/a.dwg": "same", "d/odd.dwg": "new sound"}))
+
+    def test_another_content_that_a_link_leads_to_is_told(self) -> None:
+        """A file by a link, and a folder."""
+        first, second = self.volume("first", "a.dwg", "b.dwg"), self.volume("second", "a.dwg")
+        (second / "a.dwg").write_bytes(DATA["c.dwg"])
+        links = self.volume("links")
+        (links / "l.dwg").symlink_to(first / "a.dwg")
+        (self.folder / "current").symlink_to(first)
+        words = ("--follow", first, second, links, self.folder / "current" / "a.dwg")
+        self.assertEqual((self.keep(*words), self.keep(*words)), ([], []))
+        for link, target, name in ((links / "l.dwg", second / "a.dwg", "links/l.dwg"), (self.folder / "current", second, "current/a.dwg")):
+            link.unlink()
+            link.symlink_to(target)
+            told = [f"1 of its files have another content now, which it takes; the first is {name}"]
+            self.assertEqual((self.keep(*words), self.keep(*words)), (told, []), name)
+            link.unlink()
+            link.symlink_to(first / "a.dwg" if name.startswith("links") else first)
+            self.assertEqual((self.keep(*words), self.keep(*words)), (told, []), name)
+
+    def test_a_file_of_1970(self) -> None:
+        """Its time is none that a line hasn't."""
+        volume = self.volume("d", "a.dwg")
+        path, soon = volume / "a.dwg", time.time_ns() // 10**9 * 10**9 + 10**12
+        first, second = DATA["a.dwg"] + b"1", DATA["a.dwg"] + b"2"
+        told = ["1 of its files have another content now, which it takes; the first is d/a.dwg"]
+        for data, at, said in ((first, 0, []), (second, soon, told), (first, 0, told)):
+            path.write_bytes(data)
+            os.utime(path, ns=(at, at))
+            self.assertEqual((self.keep(volume), self.compare()[0]), (said, 0), at)
 
     def test_no_word_names_no_folder(self) -> None:
         volume = self.volume("d", "a.dwg", "b.dwg")

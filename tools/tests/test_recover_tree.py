@@ -958,12 +958,17 @@ class Resumed(Tree):
         order: List[str] = []
         grower = growing.Growing.__new__(growing.Growing)
         grower.one, grower.out = Planned("a.dwg", None, "a.dwg"), "a.dwg"
-        grower.tree = SimpleNamespace(add=lambda line: order.append(f"log {line.made.output}"), stands=lambda line: order.append("stands"))
+        grower.tree = SimpleNamespace(add=lambda line: order.append(f"log {line.made.output}"), stands=lambda line: order.append("stands"), fault="")
         grower.grower = SimpleNamespace(alone=lambda file: contextlib.nullcontext(), written=set())
         grower.may_replace = lambda file, line, made, files: None
         whole = SimpleNamespace(finish=lambda: None, name="a.dwg", there=lambda name: None, force=False)
         grower.place(None, Line("a.dwg"), Made("a.dwg", "0" * 64), [(whole, "")], lambda: order.append("place"))
         self.assertEqual(order, ["log a.dwg", "place", "stands"])
+        # Where LOG can't be written nothing is replaced.
+        grower.tree.fault, whole.force = "No space left on device", True
+        with self.assertRaisesRegex(ToolError, "a.dwg is left as it is, since the log can't be written: No space left on device"):
+            grower.place(None, Line("a.dwg"), Made("a.dwg", "0" * 64), [(whole, "")], lambda: order.append("place"))
+        self.assertEqual(order[3:], ["log a.dwg"])
 
     def begun(self, *words: object) -> "subprocess.Popen[bytes]":
         """A run that has begun."""
@@ -1416,11 +1421,14 @@ class Replaced(Tree):
         (self.out / LOG).write_bytes(made.log_of(old))
         self.assertEqual([row["outcome"] for row in self.grown(73, source, other)], ["refused", "recovered"])
         (self.out / LOG).write_bytes(whole)
-        # A run that ended before it replaced anything has no line that says so.
-        log = self.out / LOG
-        lines = log.read_bytes().splitlines(keepends=True)
-        log.write_bytes(b"".join(line for line in lines if b'"placed": true' not in line))
-        self.assertEqual(len(lines) - len(log.read_bytes().splitlines()), 2)
+        # A run that ended before it replaced anything has no line that says so, and what stands there is older.
+        log, lines = self.out / LOG, made.read_log(self.out / LOG)
+        unplaced = [line for line in lines if not (line.get("made") or {}).get("placed")]
+        self.assertEqual(len(lines) - len(unplaced), 2)
+        log.write_bytes(made.log_of(unplaced))
+        self.assertEqual([row["outcome"] for row in self.grown(73, source)], ["refused"])
+        later = time.time_ns() + 10**9
+        log.write_bytes(made.log_of({**line, "made": {**line["made"], "at_ns": later}} if line.get("made") else line for line in unplaced))
         self.grown(1, source)
         self.assertEqual({name: data for name, data in tree_of(self.out).items() if name in after}, after)
 
@@ -1469,11 +1477,17 @@ class Replaced(Tree):
         lines = log.read_bytes().splitlines(keepends=True)
         log.write_bytes(b"".join(lines[:-1]))
         self.assertIn(b'"placed": true', lines[-1])
-        self.grown(1, source)
-        for name, data in before.items():
-            (self.out / os.fsdecode(name)).write_bytes(data)
-        (row,) = self.grown(73, source)
-        self.assertEqual((row["outcome"], tree_of(self.out)), ("refused", before))
+        without, after = log.read_bytes(), tree_of(self.out)
+        for is_run_between in (True, False):
+            if is_run_between:
+                self.grown(1, source)
+            for name, data in before.items():
+                (self.out / os.fsdecode(name)).write_bytes(data)
+            (row,) = self.grown(73, source)
+            self.assertEqual((row["outcome"], tree_of(self.out)), ("refused", before), is_run_between)
+            log.write_bytes(without)
+            for name, data in after.items():
+                (self.out / os.fsdecode(name)).write_bytes(data)
 
     def test_a_tree_is_no_stream(self) -> None:
         self.assertEqual(self.refused(64, self.plans, out="-"), "dwg-recover: a tree is a folder, and no stream; ./- is a folder of that name\n")
@@ -1505,16 +1519,18 @@ class Replaced(Tree):
     def test_files_that_became_links_are_told(self) -> None:
         """They aren't followed, and no line is theirs."""
         (self.plans / "s").mkdir()
-        for name in ("a.dwg", "c.dwg", "s/b.dwg"):
+        for name in ("a.dwg", "c.dwg", "d.dwg", "s/b.dwg"):
             self.plans.joinpath(name).write_bytes(older(drawn(20, len(name))))
         self.grown(1, self.plans)
         os.rename(self.plans / "s", self.folder / "moved")
         (self.plans / "s").symlink_to(self.folder / "moved")
         os.rename(self.plans / "c.dwg", self.folder / "moved" / "c.dwg")
         (self.plans / "c.dwg").symlink_to(self.folder / "moved" / "c.dwg")
+        (self.plans / "d.dwg").unlink()
+        (self.plans / "d.dwg").mkdir()
         ran = tool("dwg-recover", "--tree", self.out, self.plans)
         self.assertEqual((ran.returncode, len(rows(ran.stdout))), (1, 1))
-        self.assertIn(b"2 outputs", ran.stderr)
+        self.assertIn(b"3 outputs", ran.stderr)
         self.assertIn(os.fsencode(f"{self.out}/plans/c.dwg"), ran.stderr)
 
 

@@ -233,6 +233,17 @@ class Outputs(common.InFolder):
             self.assertEqual((ran.returncode, list(csv.reader(io.StringIO(ran.stdout.decode())))), (70, others), most)
             self.assertRegex(ran.stderr.decode(), rf"\Adwg-info: {self.folder}/d/b.dwg: the temporary file in \S+: File too large\n\Z")
 
+    def test_an_output_that_is_there_by_another_name_is_not_replaced(self) -> None:
+        """As where a file system takes small letters for capital ones, the input perhaps."""
+        path, out = self.file("plan.dwg", drawn(3, 1)), self.file("PLAN.DWG", b"")
+        listed = "import os; os.listdir = lambda path='.': ['plan.dwg']"
+        for name in ("dwg-json", "dwg-picture", "dwg-info"):
+            ran = test_limits.otherwise(name, listed, "--program", made.PROGRAM, "--force", "--output", out, path)
+            self.assertEqual((ran.returncode, ran.stdout, out.read_bytes()), (73, b"", b""), ran.stderr)
+            self.assertEqual(ran.stderr.decode(), f"{name}: {out} is there by another name, which --force doesn't replace\n")
+        ran = test_limits.otherwise("dwg-recover", listed, "--program", made.PROGRAM, "--force", path, out)
+        self.assertEqual((ran.returncode, out.read_bytes()), (73, b""), ran.stderr)
+
     def test_a_temporary_file_that_stays_is_told(self) -> None:
         """As in a folder to which files can only be added."""
         data = drawn(20, 1)
