@@ -30,7 +30,7 @@ from .streams import tell
 from .table import Progress
 from .tree_lines import Line, Made, TreeTable, line_of_row, losses_told
 from .tree_log import TreeLog
-from .trees import LOG_NAME, Planned, Sources, left_behind, most_open, opened_folder, planned, refuse_folders, refuse_read
+from .trees import LOG_NAME, NOTES, Planned, Sources, left_behind, most_open, opened_folder, planned, refuse_folders, refuse_read
 from .verdicts import Checker
 from .versions import LIMIT
 from .walking import Files, nothing_found, status_of, walk_of
@@ -168,7 +168,7 @@ class Growing(Checker):
         super().__init__(grower.program, grower.log)
         self.grower, self.one, self.tree = grower, one, grower.log
         self.out = os.path.join(grower.options.tree, one.name)
-        self.notes = self.out + ".notes"
+        self.notes = self.out + NOTES
 
     def found(self, file: IO[bytes], content: IO[bytes], row: Row) -> Row:
         line = line_of_row(super().found(file, content, row))
@@ -298,7 +298,7 @@ class Growing(Checker):
             return False
         if there is None:
             return False
-        if not self.grower.options.force and not self.tree.is_own(self.one.name + ".notes", there, self.one.path, notes.there(notes.name)):
+        if not self.grower.options.force and not self.tree.is_own(self.one.name + NOTES, there, self.one.path, notes.there(notes.name)):
             raise Refused(f"{self.notes} is there already, and isn't what a run left there; --force removes it")
         return True
 
@@ -334,7 +334,7 @@ class Growing(Checker):
                 continue
             if (state.st_dev, state.st_ino) in self.grower.written:
                 raise Refused(f"{whole.path} is what this run has written of another file")
-            name = self.one.name if whole.path == self.out else self.one.name + ".notes"
+            name = self.one.name if whole.path == self.out else self.one.name + NOTES
             if there != digest and not self.tree.is_own(name, there, self.one.path, state) and not self.grower.options.force:
                 raise Refused(f"{whole.path} is there already, and isn't what a run left there; --force replaces it")
             if there != digest and self.tree.is_of(name, there, line.sha256) and not self.grower.options.force:
