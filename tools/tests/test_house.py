@@ -6,6 +6,7 @@ import os
 import pathlib
 import py_compile
 import re
+import resource
 import shutil
 import subprocess
 import tempfile
@@ -16,7 +17,7 @@ import made
 from made import TOOLS, TOP
 
 PAGES = ["dwg.1", "dwg-tools.7"]
-NAMES = sorted(path.name for path in TOOLS.glob("dwg-*"))
+NAMES = sorted(path.name for path in TOOLS.glob("dwg-*") if path.name.replace("-", "").isalpha())
 
 
 class House(unittest.TestCase):
@@ -123,6 +124,11 @@ class House(unittest.TestCase):
         foreign.write_bytes(b"own")
         subprocess.run([*words, "uninstall"], cwd=TOP, check=True, stderr=subprocess.DEVNULL)
         self.assertEqual(foreign.read_bytes(), b"own")
+        # Nor is it replaced.
+        ran = subprocess.run([*words, "install"], cwd=TOP, check=False, capture_output=True)
+        self.assertEqual((ran.returncode, foreign.read_bytes(), b"bin/dwg is there, and make install did not bring it\n" in ran.stderr), (2, b"own", True))
+        self.assertEqual([path for path in destination.rglob("*") if path.is_file()], [foreign])
+        foreign.unlink()
         # A link that has a name of what is installed is replaced, and nothing is written to where it leads.
         elsewhere = self.folder / "elsewhere"
         elsewhere.write_bytes(b"own")
@@ -187,6 +193,68 @@ class House(unittest.TestCase):
             self.assertEqual((ran.returncode, ran.stdout, f"{top}/{name} is a folder\n".encode() in ran.stderr), (2, b"", True), name)
             self.assertEqual([path for path in top.rglob("*") if not path.is_dir()], [])
             shutil.rmtree(top)
+
+    def test_a_full_disk_leaves_what_was_installed(self) -> None:
+        """A limit on files has each larger one cut, as a full disk has."""
+        if not shutil.which("make"):
+            self.skipTest("make install, as make isn't installed")
+        top, program = self.folder / "top", self.folder / "program"
+        program.write_bytes(b"old" * 1000)
+        words = ["make", "-s", f"PREFIX={top}", "DWG=true", f"PROGRAM={program}", "install"]
+        subprocess.run(words, cwd=TOP, check=True)
+        before = {path: path.read_bytes() for path in top.rglob("*") if path.is_file()}
+        program.write_bytes(b"new" * 1_000_000)
+        for limit in (0, 1_000, 20_000, 1_000_000):
+            ran = subprocess.run(words, cwd=TOP, capture_output=True, check=False, restore_signals=False, preexec_fn=lambda: resource.setrlimit(resource.RLIMIT_FSIZE, (limit, limit)))
+            self.assertEqual((ran.returncode, {path: path.read_bytes() for path in top.rglob("*") if path.is_file()}), (2, before), limit)
+        subprocess.run(words, cwd=TOP, check=True)
+        self.assertEqual((top / "bin" / "dwg").read_bytes(), program.read_bytes())
+        self.assertEqual([*(top / "lib" / "dwg").glob(".new*")], [])
+
+    def test_what_somebody_else_put_there_stays(self) -> None:
+        """A program or a tool of another's in bin, another checkout where the tools are to stand, or the tools of one as bin."""
+        if not shutil.which("make"):
+            self.skipTest("make install, as make isn't installed")
+        top, program = self.folder / "it's", self.folder / "program"
+        program.write_bytes(b"program")
+        words = ["make", "-s", f"PREFIX={top}", "DWG=true", f"PROGRAM={program}"]
+        goes = lambda goal: subprocess.run([*words, goal], cwd=TOP, check=False, capture_output=True).returncode
+        checkout = self.folder / "checkout"
+        for name in ("tools", "docs", "Makefile", "dwg"):
+            (shutil.copytree if (TOP / name).is_dir() else shutil.copy)(TOP / name, self.made_folder(checkout) / name)
+        files = lambda folder: {path: path.read_bytes() for path in folder.rglob("*") if path.is_file()}
+        before = files(checkout)
+        for link, target in (("lib/dwg", checkout), ("bin", checkout / "tools"), ("bin", checkout)):
+            self.made_folder((top / link).parent)
+            (top / link).symlink_to(target)
+            self.assertEqual((goes("install"), goes("uninstall"), files(checkout)), (2, 0, before), link)
+            shutil.rmtree(top)
+        self.assertEqual(goes("install"), 0)
+        for name in ("dwg", "dwg-info"):
+            own = top / "bin" / name
+            installed = own.read_bytes()
+            own.unlink()
+            own.write_bytes(b"own")
+            self.assertEqual((goes("install"), own.read_bytes()), (2, b"own"))
+            own.unlink()
+            self.assertEqual((goes("install"), own.read_bytes()), (0, installed))
+        for name in ("dwg", "dwg-info"):
+            own = top / "bin" / name
+            own.unlink()
+            own.write_bytes(b"own")
+        self.assertEqual(goes("uninstall"), 0)
+        self.assertEqual(files(top), {top / "bin" / name: b"own" for name in ("dwg", "dwg-info")})
+
+    def test_two_that_install_at_once(self) -> None:
+        if not shutil.which("make"):
+            self.skipTest("make install, as make isn't installed")
+        top, program = self.folder / "top", self.folder / "program"
+        program.write_bytes(b"program")
+        words = ["make", "-s", f"PREFIX={top}", "DWG=true", f"PROGRAM={program}", "install"]
+        subprocess.run(words, cwd=TOP, check=True)
+        runs = [subprocess.Popen(words, cwd=TOP) for _ in range(4)]
+        self.assertEqual([run.wait() for run in runs], [0] * 4)
+        self.assertEqual(((top / "bin" / "dwg").read_bytes(), [*(top / "lib" / "dwg").glob(".new*")]), (b"program", []))
 
     def test_a_checkout_is_left_as_it_is(self) -> None:
         """One that stands where the tools would be installed, or to which that is a link; this one or another."""
