@@ -355,7 +355,9 @@ class Git(common.InFolder):
         self.environment = {**{name: value for name, value in os.environ.items() if not name.startswith("GIT_")}, **alone, "PATH": path, "DWG": PROGRAM}
         self.top = self.folder / "drawings"
         self.git("init", "--quiet", str(self.top))
-        (self.top / ".gitattributes").write_text("*.dwg diff=dwg\n")
+        attributes = re.search(r"put `(.*?)` into `.gitattributes`", (TOP / "docs" / "RECIPES.md").read_text())
+        assert attributes is not None
+        (self.top / ".gitattributes").write_text(attributes[1] + "\n")
         (self.top / "a plan.dwg").write_bytes(made(1, 7))
         self.git("add", ".")
         self.git("commit", "--quiet", "--message", "The plan")
@@ -377,14 +379,23 @@ class Git(common.InFolder):
         self.assertTrue(any(line.startswith("@@") and line.endswith('@@ "object": "18",') for line in found), found)
 
     def test_what_is_no_drawing_that_is_read_ends_nothing(self) -> None:
-        """What the tool says of it stands in its place, and all else is shown."""
+        """What the tool says of it stands in its place, and of which content; and all else is shown."""
         for index, data in enumerate((made(2, 7)[:-9], b"AC1032", b"")):
-            self.file(f"drawings/b{index}.dwg", data)
+            self.file(f"drawings/b{index}.DWG", data)
         (self.top / "c.dwg").write_bytes(made(2, 7))
         self.git("add", ".")
         self.git("commit", "--quiet", "--message", "More")
         found = self.git("log", "--patch").splitlines()
         self.assertEqual([found.count('+  "object": "31",'), sum(line.startswith("+dwg-json: ") for line in found)], [2, 3])
+        # Of two files of which the same is said it is seen that they differ.
+        self.file("drawings/b1.DWG", b"AC1032.")
+        self.assertEqual([line[0] for line in self.git("diff").splitlines() if re.match("[-+][0-9a-f]{40}$", line)], ["-", "+"])
+
+    def test_where_the_tool_gives_no_answer_nothing_is_shown_as_the_same(self) -> None:
+        (self.top / "a plan.dwg").write_bytes(made(2, 7))
+        for change, said in (({"DWG": "/nowhere/dwg"}, b"/nowhere/dwg"), ({"PATH": os.path.dirname(shutil.which("git") or "")}, b"not found")):
+            ran = subprocess.run(["git", "diff"], cwd=self.top, env={**self.environment, **change}, capture_output=True, check=False)
+            self.assertEqual((ran.returncode, said in ran.stderr), (128, True), ran)
 
     def test_a_name_that_looks_like_an_option_is_a_name(self) -> None:
         """One of a foreign repository would name a program that is run."""
