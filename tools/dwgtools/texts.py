@@ -3,13 +3,14 @@
 from __future__ import annotations
 
 import re
-from typing import Any, Dict, Iterator, Mapping, Tuple
+from typing import Any, Dict, Iterator, List, Mapping, Tuple
 
 from .drawings import Drawing
 from .encodings import decoded, unescaped
 from .kinds import INSERTS
 from .names import Names, class_names, type_name
 from .numbered import Numbered
+from .searching import LETTERS, ONE_TEXT, Search
 from .show import Lists, Object
 from .spools import Rows
 from .values import Text, read_text
@@ -33,18 +34,31 @@ def name_of(names: Mapping[int, Text], handle: int, page: str) -> str:
     return decoded(names.get(handle, b""), page)
 
 
-def texts_in(drawing: Drawing, pattern: "re.Pattern[str]") -> Iterator[Dict[str, Any]]:
+def texts_in(drawing: Drawing, search: Search) -> Iterator[Dict[str, Any]]:
     """The texts in which a pattern is found, as they are or with the letters that are escaped in them, once all of a drawing is read."""
     rows, names = Rows(), Names()
+    waiting: List[Tuple[int, str, int, str]] = []
+    letters = 0
+
+    def search_all() -> None:
+        spelled = ((content, unescaped(content)) for *_, content in waiting)
+        for row, is_found in zip(waiting, search.finds([spellings[: len({*spellings})] for spellings in spelled])):
+            if is_found:
+                rows.put(*row)
+        waiting.clear()
+
+    search.begin()
     with drawing.show(Lists.NONE) as (prefix, found):
         page, classes = prefix.page, class_names(prefix)
         for one in found:
             names.take(one)
             for content in contents_of(one, page):
-                plain = unescaped(content)
-                if not pattern.search(content) and (plain == content or not pattern.search(plain)):
-                    continue
-                rows.put(one.handle, type_name(one, classes), one.target("layer"), content)
+                waiting.append((one.handle, type_name(one, classes), one.target("layer"), content))
+                letters += len(content) + ONE_TEXT
+                if letters > LETTERS:
+                    search_all()
+                    letters = 0
+        search_all()
     return ({"handle": f"{handle:X}", "kind": kind, "layer": name_of(names, layer, page), "text": content} for handle, kind, layer, content in rows)
 
 

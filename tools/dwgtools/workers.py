@@ -24,6 +24,14 @@ _SIZE = struct.Struct("<Q")
 Work = Callable[[bytes], bytes]
 
 
+class Killed(ToolError):
+    """A worker was ended by a signal."""
+
+    def __init__(self, number: int) -> None:
+        super().__init__(f"a process of the tool gave no answer: killed by signal {number}", Exit.FAILURE)
+        self.number = number
+
+
 class Worker:
     """A process that works on what it is sent, and sends what becomes of it."""
 
@@ -74,8 +82,9 @@ class Worker:
         self.number = 0
         if os.WIFEXITED(code) and os.WEXITSTATUS(code) == Status.NO_MEMORY:
             return MemoryError()
-        why = f"killed by signal {os.WTERMSIG(code)}" if os.WIFSIGNALED(code) else f"status {os.WEXITSTATUS(code)}"
-        return ToolError(f"a process of the tool gave no answer: {why}", Exit.FAILURE)
+        if os.WIFSIGNALED(code):
+            return Killed(os.WTERMSIG(code))
+        return ToolError(f"a process of the tool gave no answer: status {os.WEXITSTATUS(code)}", Exit.FAILURE)
 
     def end(self) -> None:
         """Ends it, and waits until it has ended."""

@@ -24,7 +24,7 @@ import test_limits
 import test_safety
 from made import TOOLS, flipped, layout, made as drawn, needs_program, program_that, tool
 
-from dwgtools import spools, walking
+from dwgtools import searching, spools, walking
 from dwgtools.previews import bitmap_file
 from dwgtools.program import Program
 from dwgtools.statuses import ToolError
@@ -356,6 +356,23 @@ class Tables(common.InFolder):
             handle = drawing.text("Стена".encode("cp1251"), (0, 0), 1.0)
             path = self.file("a.dwg", drawing.file(29))
             self.assertEqual(rows_of(answer("--texts", "стена", "--ignore-case", path)[1])[1], [str(path), f"{handle:X}", "TEXT", "0", "Стена"])
+
+    def test_a_pattern_that_takes_too_long_holds_no_run_up(self) -> None:
+        """Python would go through a text of some letters for years."""
+        paths = []
+        for content in (b"Room " + b"a" * 60, b"Room 7" + b"b" * 60):
+            one = spelled.Drawing()
+            handle = one.text(content, (0, 0), 1.0)
+            paths.append(self.file(f"{len(paths)}.dwg", one.file()))
+        with unittest.mock.patch.object(searching, "MOST_SECONDS", 1):
+            status, out, said = answer("--texts", "(a|a)+!|Room 7", *paths)
+        self.assertEqual((status, said), (67, f"dwg-info: {paths[0]}: its texts take more than 1 seconds to be searched by PATTERN\n"))
+        self.assertEqual([row[:2] for row in rows_of(out)[1:]], [[str(paths[1]), f"{handle:X}"]])
+        found = answer("--texts", "a{60}|b{60}", *paths)
+        self.assertEqual((found[0], found[1].count(b"\n"), found[2]), (0, 3, ""))
+        # Where no process can begin, all are searched.
+        with unittest.mock.patch.object(searching, "Worker", side_effect=BlockingIOError):
+            self.assertEqual(answer("--texts", "a{60}|b{60}", *paths), found)
 
     def test_very_many_rows_are_kept_in_a_file(self) -> None:
         path = self.file("a.dwg", drawn(60, 7))
