@@ -12,8 +12,8 @@ from typing import IO, Any, Callable, Deque, Dict, Iterable, Iterator, List, Opt
 
 from .certificates import Certificates, refusal_of
 from .escapes import one_line
-from .inputs import bytes_of
-from .log import LED_ELSEWHERE, Contents, Links, Places, content_of, is_away, is_gone, open_log, read_row, refuse_file, spelled_name
+from .inputs import bytes_of, is_hollow
+from .log import LED_ELSEWHERE, Contents, Links, Places, content_of, is_away, is_gone, link_of, open_log, read_row, refuse_file, spelled_name
 from .log_lines import take_lines
 from .program import Program, ProgramFailed
 from .rows import Row, as_object
@@ -85,6 +85,10 @@ class Kept(Contents):
         name = self.links.get(spelled_name(path))
         return None if name is None or name not in self or name == self.name_of(path) else name
 
+    def leads_to_gone(self, path: str, name: str) -> bool:
+        """Whether a path leads by a link to a file of LOG that isn't there, which LOG has by another name than the link's."""
+        return name in self and link_of(path, name) not in (None, spelled_name(self[name].path)) and is_away(name)
+
     def had(self, path: str) -> Optional[Row]:
         """What LOG has of the file to which a path led."""
         return self.get(self.led_to(path) or self.name_of(path))
@@ -143,7 +147,7 @@ class Comparer(Checker):
     def checked(self, file: IO[bytes], row: Row) -> Row:
         told, kept = os.fstat(file.fileno()), self._kept.had(row.path)
         line = Compared(row.path, "new", bytes=told.st_size, mtime_ns=told.st_mtime_ns, kept=kept, is_new=kept is None)
-        line.sha256 = self.digest(file, told.st_size)
+        line.sha256 = None if is_hollow(file, told.st_size) else self.digest(file, told.st_size)
         had = self._missing.verdict_of(line) if kept is None else kept.verdict
         led_to = self._kept.led_to(row.path)
         if kept is not None and content_of(line) != content_of(kept):
@@ -204,7 +208,7 @@ def planned(found: Iterable[Named], kept: Kept) -> Tuple[List[Named], List[Row]]
     seen: Set[str] = set()
     for one in found:
         name = kept.name_of(one.path)
-        own = name if kept.led_to(one.path) is None else spelled_name(one.path)
+        own = name if kept.led_to(one.path) is None and not kept.leads_to_gone(one.path, name) else spelled_name(one.path)
         # (a word may name a file that is missing)
         if own not in seen and not (name in kept and is_away(one.path)):
             seen.add(own)

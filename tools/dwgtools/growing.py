@@ -28,9 +28,9 @@ from .rows import Row
 from .statuses import Exit, Status, ToolError
 from .streams import tell
 from .table import Progress
-from .tree_lines import Line, Made, TreeTable, line_of_row, losses_told
-from .tree_log import TreeLog
-from .trees import LOG_NAME, NOTES, Planned, Sources, left_behind, most_open, opened_folder, planned, refuse_folders, refuse_read
+from .tree_lines import Line, Made, State, TreeTable, line_of_row, losses_told
+from .tree_log import TreeLog, names_of, state_of
+from .trees import LOG_NAME, NOTES, Planned, Sources, alike, is_spelled_so, left_behind, most_open, opened_folder, planned, refuse_folders, refuse_read
 from .verdicts import Checker
 from .versions import LIMIT
 from .walking import Files, nothing_found, status_of, walk_of
@@ -115,8 +115,10 @@ NO_DIGEST = "of no output"
 class Grower:
     """Recovers files into a tree. Several threads may do so at once."""
 
-    def __init__(self, program: Program, log: TreeLog, sources: Sources, options: argparse.Namespace) -> None:
+    def __init__(self, program: Program, log: TreeLog, sources: Sources, named_alike: Set[str], options: argparse.Namespace) -> None:
         self.program, self.log, self.sources, self.options = program, log, sources, options
+        # The names of files of which a file system may take one for another.
+        self.named_alike = named_alike
         self.door = Door()
         self._locks = [threading.Lock() for _ in range(LOCKS)]
         # The folders whose lock another run kept as long as it is waited for.
@@ -205,11 +207,14 @@ class Growing(Checker):
         line.detail = "; ".join(filter(None, [line.detail, why]))
 
     def stands(self, line: Line, made: Made) -> None:
-        """Has LOG keep what stands below OUT, and the line say it."""
-        line.made = made
-        self.tree.add(line)
-        self.tree.stands(line)
-        self.written([Spot(self.out), *([] if made.notes is None else [Spot(self.notes)])])
+        """Has LOG keep what stands below OUT, and the line say it. Where somebody else put it there it is no run's own."""
+        line.made, spots = made, [Spot(self.out), *([] if made.notes is None else [Spot(self.notes)])]
+        if all(digest is None or self.tree.is_own(name, digest, self.one.path, None) for name, digest in names_of(made)):
+            self.tree.add(line)
+            self.tree.stands(line)
+        else:
+            self.tree.stands_by_another(line)
+        self.written(spots)
         self.say(line, made)
 
     def written(self, spots: Sequence[Spot]) -> None:
@@ -230,8 +235,7 @@ class Growing(Checker):
     def recover(self, file: IO[bytes], content: IO[bytes], line: Line) -> None:
         """Writes what is whole of a damaged drawing, and its notes, unless that stands."""
         known = self.tree.recovered_of(line.sha256)
-        is_wanted = known is not None and (known.kept or self.grower.options.even_empty)
-        if known is not None and is_wanted and (self.digest_at(Spot(self.out), file), self.digest_at(Spot(self.notes), file)) == (known.sha256, known.notes):
+        if known is not None and (known.kept or self.grower.options.even_empty) and self.is_there(file, known):
             self.stands(line, replace(known, output=self.one.name))
             return
         with self.folder() as at, self.begun(file, self.out, at) as whole, self.begun(file, self.notes, at) as notes:
@@ -259,9 +263,10 @@ class Growing(Checker):
         """Writes a whole drawing as it is, with its times, unless it stands."""
         assert line.sha256 is not None
         made = Made(self.one.name, line.sha256)
-        has_notes = self.has_own_notes(file, Spot(self.notes))
-        if self.digest_at(Spot(self.out), file) == line.sha256 and not has_notes:
+        if self.digest_at(Spot(self.out), file) == line.sha256 and not self.has_notes_to_remove(file, line.sha256):
             self.stands(line, made)
+            more = f"{self.notes} is there too, and no notes of it" if os.path.lexists(self.notes) else ""
+            line.detail = "; ".join(filter(None, [line.detail, more]))
             return
         with self.folder() as at, self.begun(file, self.out, at) as whole:
             for piece in pieces_of(content, line.bytes or 0):
@@ -290,6 +295,14 @@ class Growing(Checker):
         if (now.st_size, now.st_mtime_ns) != (line.bytes, line.mtime_ns):
             raise ToolError("it was changed while it was read", Status.READ_FAULT)
 
+    def has_notes_to_remove(self, file: IO[bytes], digest: str) -> bool:
+        """Whether notes of an earlier run stand beside a copy that stands, and both are the tool's own."""
+        try:
+            is_own = self.grower.options.force or self.tree.is_own(self.one.name, digest, self.one.path, None)
+            return is_own and self.has_own_notes(file, Spot(self.notes))
+        except Refused:
+            return False
+
     def has_own_notes(self, file: IO[bytes], notes: Spot) -> bool:
         """Whether the notes of an earlier run stand where those of this file would."""
         try:
@@ -305,13 +318,17 @@ class Growing(Checker):
     def place(self, file: IO[bytes], line: Line, made: Made, files: List[Tuple[WholeFile, str]], place: Callable[[], None]) -> None:
         """Gives outputs of such contents their names, where what is there may be replaced. LOG has them before, so that it knows them again whatever
         ends the run."""
-        self.may_replace(file, line, made, files)
+        if not self.is_there(file, made):
+            self.may_replace(file, line, made, files)
         for whole, _ in reversed(files):
             whole.finish()
         with self.grower.alone(files[0][0]):
+            if self.is_there(file, made):
+                self.stands(line, made)
+                return
             self.may_replace(file, line, made, files)
-            line.made = made
-            self.tree.add(line)
+            line.made, stood = made, self.stood(files[0][0])
+            self.tree.add(line, stood)
             if self.tree.fault and any(whole.force for whole, _ in files):
                 # (later it would be the output that LOG doesn't know)
                 raise ToolError(f"{self.out} is left as it is, since the log can't be written: {self.tree.fault}", Status.WRITE_FAULT)
@@ -319,23 +336,39 @@ class Growing(Checker):
                 place()
             except BaseException:
                 # (what stood there stands there again, and was touched)
-                self.tree.keep(line)
+                self.tree.keep(line, stood)
                 raise
             self.tree.stands(line)
             self.written([whole for whole, _ in files])
             self.say(line, made)
 
+    def is_there(self, file: IO[bytes], made: Made) -> bool:
+        """Whether a recovered drawing and its notes stand as they would be written, whoever put them there."""
+        return made.notes is not None and (self.digest_at(Spot(self.out), file), self.digest_at(Spot(self.notes), file)) == (made.sha256, made.notes)
+
+    def stood(self, whole: WholeFile) -> Tuple[State, State]:
+        """What stands where an output and its notes are about to."""
+        found: List[State] = [None, None]
+        for at, path in enumerate((self.out, self.notes)):
+            # (no file has a name that is too long)
+            with contextlib.suppress(OSError):
+                found[at] = state_of(whole.there(os.path.basename(path)))
+        return found[0], found[1]
+
     def may_replace(self, file: IO[bytes], line: Line, made: Made, files: List[Tuple[WholeFile, str]]) -> None:
-        """Has outputs replace what is there, where that is of an earlier run and of another content, and as it left it, or what is to be written; else
-        Refused, unless forced. What is whole, and perhaps the last that is, never gives way to what was recovered."""
+        """Has outputs replace what is there, where that is of an earlier run and as it left it; else Refused, unless forced. What is whole, and perhaps
+        the last that is, never gives way to what was recovered."""
         for whole, digest in files:
             there, state = self.digest_at(whole, file), whole.there(whole.name)
             if there is None or state is None:
                 continue
-            if (state.st_dev, state.st_ino) in self.grower.written:
+            # (of two links to one file the other one stays)
+            if (state.st_dev, state.st_ino) in self.grower.written and state.st_nlink == 1:
                 raise Refused(f"{whole.path} is what this run has written of another file")
             name = self.one.name if whole.path == self.out else self.one.name + NOTES
-            if there != digest and not self.tree.is_own(name, there, self.one.path, state) and not self.grower.options.force:
+            if self.one.name in self.grower.named_alike and not is_spelled_so(self.grower.options.tree, name):
+                raise Refused(f"{whole.path} is there by another name")
+            if not self.tree.is_own(name, there, self.one.path, state) and not self.grower.options.force:
                 raise Refused(f"{whole.path} is there already, and isn't what a run left there; --force replaces it")
             if there != digest and self.tree.is_of(name, there, line.sha256) and not self.grower.options.force:
                 raise Refused(f"{whole.path} is of the same content, by another program; --force replaces it")
@@ -429,7 +462,7 @@ def recover_tree(options: argparse.Namespace) -> int:
     try:
         log.begin(made_by)
         progress.begin(Files(plan))
-        table = grow_all(plan, Grower(program, log, sources, options), progress, options)
+        table = grow_all(plan, Grower(program, log, sources, alike(plan), options), progress, options)
     finally:
         log.close()
     left = list(left_behind(plan, log.written(), options))

@@ -3,6 +3,7 @@
 from __future__ import annotations
 
 import contextlib
+import errno
 import io
 import os
 import stat
@@ -163,6 +164,29 @@ def pieces_of(file: IO[bytes], end: int, at: int = 0) -> Iterator[bytes]:
             return
         yield piece
         at += len(piece)
+
+
+# A file of more than so many bytes is hollow where it has more than so many times what the disk has of it.
+LEAST_HOLLOW, MOST_HOLLOW = 1 << 26, 64
+
+
+def is_hollow(file: IO[bytes], size: int) -> bool:
+    """Whether most of a file is holes: a disk has next to nothing of it, and to read it would take as long as its size says, for years perhaps."""
+    if size <= LEAST_HOLLOW:
+        return False
+    handle, at, held = file.fileno(), 0, 0
+    before = os.lseek(handle, 0, os.SEEK_CUR)
+    try:
+        while MOST_HOLLOW * held < size:
+            begin = os.lseek(handle, at, os.SEEK_DATA)
+            at = os.lseek(handle, begin, os.SEEK_HOLE)
+            held += at - begin
+        return False
+    except (OSError, AttributeError) as fault:
+        # (there is nothing but a hole after this; and what doesn't tell of holes has none)
+        return isinstance(fault, OSError) and fault.errno == errno.ENXIO
+    finally:
+        os.lseek(handle, before, os.SEEK_SET)
 
 
 def bytes_of(file: IO[bytes], most: int) -> bytes:

@@ -27,6 +27,7 @@ from .statuses import Exit, ToolError
 from .streams import tell
 from .versions import LIMIT
 from .walking import is_called_drawing
+from .whole_names import MOST_NAME, absolute_name
 
 Key = Tuple[str, int, int]
 
@@ -63,24 +64,6 @@ DIGEST, VERSION_TOLD = re.compile("[0-9a-f]{64}"), re.compile("(?:AC[0-9]{4})?")
 WHOLE = ("sound", "unsound", "trailing bytes")
 
 
-# No system finds a file by a name of more bytes.
-MOST_NAME = 4095
-
-
-def absolute_name(path: str) -> str:
-    """The whole name of a file, whatever links lead to it: `link/../plan.dwg` stands beside what the link leads to, and /dev/stdin is
-    another file each time. Where the folder that it begins in is gone, or no file can have the name, the name itself; where more links
-    lead on than Python follows, and any system, the name in that folder."""
-    if len(path) > MOST_NAME:
-        return path
-    try:
-        return os.path.realpath(path)
-    except RecursionError:
-        return os.path.join(absolute_name(os.curdir), path)
-    except (OSError, ValueError):
-        return path
-
-
 def spelled_name(path: str) -> str:
     """The whole name of a file as it is spelled: links in it aren't gone through, but for those before the last `..`, which leads up from there."""
     parts = [part for part in path.split(os.sep) if part not in ("", os.curdir)]
@@ -100,7 +83,9 @@ class Links(Dict[str, str]):
     """Names that lead to files by links, each with the name by which LOG had the file when it took it last."""
 
     def take(self, told: Dict[str, Any]) -> None:
-        """Takes a line of LOG. What is a file by its own name is none beyond a link any more."""
+        """Takes a line of LOG. What is a file by its own name is none beyond a link any more. (Of what couldn't be read nobody knows.)"""
+        if told["verdict"] == "unreadable" and told.get("forgotten") is not True:
+            return
         if told.get("link") is None:
             self.pop(told["absolute"], None)
         else:
@@ -338,15 +323,19 @@ class Log:
         self._latest: Dict[str, Key] = {}
         self._keys: Dict[str, List[Key]] = {}
         self._contents: Dict[str, Row] = {}
-        self._unreadable: Set[Tuple[str, str]] = set()
+        # Why each file couldn't be read of which the last line says so.
+        self._unreadable: Dict[str, str] = {}
         # What LOG had when the run began; what was found under names that it didn't have, and which of its own weren't there, though they were named.
         self._before, self._links = Contents(), Links()
         self._names: Set[str] = set()
         self._places = Places(self._names)
         self._new: Dict[str, Row] = {}
         self._missed: List[str] = []
+        self._missed_folders: List[str] = []
         # Files of LOG that have another content than it had, and not by themselves.
         self.others: Set[str] = set()
+        # Their lines, by the names of the files, which LOG gets once that is told.
+        self._withheld: List[Tuple[str, Row]] = []
         self._lock = threading.Lock()
         # (nothing before all is read)
         self._seen: Optional[Seen] = None
@@ -398,12 +387,11 @@ class Log:
                 self._first.pop(key, None)
                 self._current.discard(key)
         if row.verdict == "unreadable":
-            self._unreadable.add((absolute, row.detail))
+            self._unreadable[absolute] = row.detail
         elif row.bytes is not None:
             key = (absolute, row.bytes, UNTIMED if row.mtime_ns is None else row.mtime_ns)
             self._latest[absolute] = key
-            # (one that was gone is there again)
-            self._unreadable.discard((absolute, GONE))
+            self._unreadable.pop(absolute, None)
             if row.mtime_ns is not None:
                 self._take_key(key, row, is_current)
             if is_current and row.sha256 and row.verdict != "changed":
@@ -439,24 +427,35 @@ class Log:
             key = (self._places.name_of(path), told.st_size, told.st_mtime_ns)
         except (OSError, ValueError):
             return None
-        known = self._known[key] if key in self._current and (key[0], GONE) not in self._unreadable else None
-        # One that was changed is looked at again: it may have been put right.
-        if known is None or known.verdict == "changed":
-            return None
-        row = replace(known, path=path)
-        self._see_other(key[0], row)
-        if self._latest[key[0]] != key or not self._has_link(path, key[0]):
-            # (it was another meanwhile, which LOG would have of it)
-            self.add_line(key[0], row)
-            self._latest[key[0]] = key
-        return row
+        known = self._known[key] if key in self._current and key[0] not in self._unreadable else None
+        # One that was changed is looked at again, as one that couldn't be read is: it may have been put right.
+        return None if known is None or known.verdict == "changed" else replace(known, path=path)
 
-    def _see_other(self, name: str, row: Row) -> None:
-        """Takes note of a file that has another content than LOG had last by its name, and not by itself; also of a link that led to another file."""
+    def found_again(self, row: Row) -> None:
+        """Takes note of a file that is as LOG has it, though perhaps not last, nor by this link."""
+        name = self._places.name_of(row.path)
+        key = (name, row.bytes or 0, row.mtime_ns or 0)
+        if self._sees_other(name, row):
+            self._withheld.append((name, row))
+        elif self._latest.get(name) != key or not self._has_link(row.path, name):
+            # (it was another meanwhile, which LOG would have of it)
+            self.add_line(name, row)
+            self._latest[name] = key
+
+    def _sees_other(self, name: str, row: Row) -> bool:
+        """Whether a file has another content than LOG had last by its name, and not by itself, which is noted; also a link that led to another file."""
         link = spelled_name(row.path) if self._links else name
         led_to = self._links.get(link, name)
-        if led_to in self._before and row.sha256 and content_of(row) != content_of(self._before[led_to]):
-            self.others.add(name if led_to == name else link)
+        is_read = row.sha256 is not None or row.verdict not in ("unreadable", "failed")
+        had = {name: name, **({} if led_to == name else {link: led_to})}
+        others = {one for one, of in had.items() if is_read and of in self._before and content_of(row) != content_of(self._before[of])}
+        self.others |= others
+        return bool(others)
+
+    def take_others(self) -> None:
+        """Has LOG take the other contents, which are told now."""
+        for name, row in self._withheld:
+            self.add_line(name, row)
 
     def _has_link(self, path: str, name: str) -> bool:
         """Whether LOG has it that a path leads to a file, where it does so by a link."""
@@ -473,10 +472,12 @@ class Log:
                 found.append(name)
         return found
 
-    def gone(self, words: Iterable[str]) -> List[str]:
+    def gone(self, words: Iterable[str], is_sure: bool = False) -> List[str]:
         """The whole names of files that aren't there any more, and of links to files that are, which the words named or which stand below these, in
-        their order; and of files that aren't there any more to which such links led."""
-        tops = {name for word in filter(None, words) for name in (absolute_name(word), spelled_name(word))} | {*self._missed}
+        their order; and of files that aren't there any more to which such links led. Where it `is_sure`, only what stands below the given words or was
+        named itself."""
+        missed = self._missed if is_sure else [*self._missed, *self._missed_folders]
+        tops = {name for word in filter(None, words) for name in (absolute_name(word), spelled_name(word))} | {*missed}
         names = {*self._before, *self._before.without, *self._links}
         # (many files stand in one folder)
         folders = {folder for folder in {os.path.dirname(name) for name in names} if is_among(folder, tops) or is_among(absolute_name(folder), tops)}
@@ -511,17 +512,22 @@ class Log:
                 return row
             # (it may have been a folder, and what a link led to is none of the words)
             if is_gone(row.path):
-                self._missed.append(spelled_name(row.path))
+                self._missed_folders.append(spelled_name(row.path))
         key = (absolute, row.bytes or 0, row.mtime_ns or 0)
         old = self._known.get(key)
         first = self._first.get(key, "" if old and old.verdict == "changed" else row.sha256)
-        if old and row.sha256 and row.sha256 != first:
+        is_other = False
+        # (of a file that has only holes now there is no SHA-256)
+        if old and (row.sha256 or key in self._first) and row.sha256 != first:
             row = replace(row, verdict="changed", detail=f"{row.verdict}: {row.detail}" if row.detail else row.verdict)
         else:
-            self._see_other(absolute, row)
-        is_there = key in self._current and old is not None and old.sha256 == row.sha256 and (absolute, GONE) not in self._unreadable
+            is_other = self._sees_other(absolute, row)
+        is_there = key in self._current and old is not None and old.sha256 == row.sha256 and absolute not in self._unreadable
         is_there = is_there and self._latest[absolute] == key and self._has_link(row.path, absolute)
-        if not is_there and not (row.verdict == "unreadable" and (absolute, row.detail) in self._unreadable):
+        if is_other:
+            self._withheld.append((absolute, row))
+            is_there = True
+        elif not is_there and not (row.verdict == "unreadable" and self._unreadable.get(absolute) == row.detail):
             is_there = self.add_line(absolute, row)
             if row.bytes is not None:
                 self._latest[absolute] = key

@@ -205,10 +205,12 @@ def own_name() -> str:
     return one_line(os.path.basename(sys.argv[0]))
 
 
-def tell(message: str) -> None:
-    """Says a message of one line on standard error; where nobody can read it, it is lost, and nothing else."""
+def tell(message: str) -> bool:
+    """Says a message of one line on standard error; where nobody can read it, it is lost, and nothing else. Whether it could be written."""
     with contextlib.suppress(OSError, ValueError):
         print(f"{own_name()}: {one_message(message)}", file=sys.stderr, flush=True)
+        return True
+    return False
 
 
 def open_missing_streams() -> None:

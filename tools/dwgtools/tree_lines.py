@@ -5,7 +5,7 @@ from __future__ import annotations
 import json
 import sys
 from dataclasses import dataclass, field
-from typing import Any, Dict, Optional
+from typing import Any, Dict, Optional, Tuple
 
 from .escapes import one_line
 from .notes import MAPPING
@@ -34,6 +34,10 @@ NOT_READ = ("other version", "no drawing")
 STATUS_OF_FAILED = {"no memory": Status.NO_MEMORY, "changed while it was checked": Status.READ_FAULT}
 
 
+# A file that stood at a name: its inode, and the time of its last change in nanoseconds since 1970; None where none did.
+State = Optional[Tuple[int, int]]
+
+
 @dataclass(frozen=True)
 class Made:
     """What was written of a file: the name below OUT, the SHA-256 of the drawing and of its notes, of which a copy has none, how many objects were
@@ -51,8 +55,11 @@ class Made:
     mapped: Optional[bool] = None
     # Whether it stands for certain, which LOG tells where runs wrote other outputs of the file before.
     placed: Optional[bool] = None
-    # When it was about to be placed, in nanoseconds since 1970: what is newer at its name somebody put there.
+    # When it was about to be placed, in nanoseconds since 1970, and what stood at its name and that of its notes then: all else there somebody put there.
     at_ns: Optional[int] = None
+    stood: Optional[Tuple[State, State]] = None
+    # Whether somebody else put it there: it is what would be written, and no run's own.
+    foreign: Optional[bool] = None
 
     @property
     def is_whole(self) -> bool:

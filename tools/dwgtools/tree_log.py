@@ -8,16 +8,18 @@ from dataclasses import dataclass, fields, replace
 from typing import Any, Callable, Dict, List, Optional, Set, Tuple
 
 from .escapes import one_line
-from .log import DIGEST, Log, is_name
+from .log import DIGEST, LEAST, MOST, Log, is_name
 from .log_lines import NoLine, is_number
 from .notes import LOSSES
 from .rows import Row
 from .statuses import Exit, ToolError
-from .tree_lines import Line, Made
+from .tree_lines import Line, Made, State
 from .trees import NOTES
 
 # The numbers of what was written.
 NUMBERS = ("kept", "lost", "found", "findings")
+
+MOST_INODE = (1 << 64) - 1
 
 
 @dataclass
@@ -25,6 +27,24 @@ class Kept(Row):
     """A line of LOG, which tells of what was written too."""
 
     made: Optional[Made] = None
+
+
+def read_state(told: Any) -> State:
+    """What a line of LOG says of a file that stood at a name, or of none; NoLine where it isn't as it should be."""
+    if told is None:
+        return None
+    if not isinstance(told, list) or len(told) != 2 or not is_number(told[0], MOST_INODE) or not is_number(told[1], MOST["mtime_ns"], LEAST["mtime_ns"]):
+        raise NoLine
+    return told[0], told[1]
+
+
+def read_stood(told: Any) -> Optional[Tuple[State, State]]:
+    """And of an output and its notes; None where it says nothing."""
+    if told is None:
+        return None
+    if not isinstance(told, list) or len(told) != 2:
+        raise NoLine
+    return read_state(told[0]), read_state(told[1])
 
 
 def read_made(told: Any) -> Optional[Made]:
@@ -40,13 +60,28 @@ def read_made(told: Any) -> Optional[Made]:
         raise NoLine
     if not all(name in LOSSES and is_number(count) for name, count in told["parts"].items()):
         raise NoLine
-    if not all(told.get(name) is None or isinstance(told[name], bool) for name in ("mapped", "placed")):
+    if not all(told.get(name) is None or isinstance(told[name], bool) for name in ("mapped", "placed", "foreign")):
         raise NoLine
     if not (told.get("at_ns") is None or is_number(told["at_ns"])):
         raise NoLine
-    numbers: Dict[str, Any] = {name: told.get(name) for name in NUMBERS}
+    numbers: Dict[str, Any] = {**{name: told.get(name) for name in NUMBERS}, "stood": read_stood(told.get("stood"))}
     # (older tools didn't tell whether it stood for certain: what stood there before may have been put back)
-    return Made(told["output"], told["sha256"], told.get("notes"), parts=told["parts"], mapped=told.get("mapped"), placed=told.get("placed", True), at_ns=told.get("at_ns"), **numbers)
+    return Made(told["output"], told["sha256"], told.get("notes"), parts=told["parts"], mapped=told.get("mapped"), placed=told.get("placed", True), at_ns=told.get("at_ns"), foreign=told.get("foreign"), **numbers)
+
+
+def bare(made: Made) -> Made:
+    """What was written, whenever and in whatever place."""
+    return replace(made, placed=None, at_ns=None, stood=None, foreign=None)
+
+
+def names_of(made: Made) -> Tuple[Tuple[str, str], Tuple[str, Optional[str]]]:
+    """The names below OUT of what was written and of its notes, each with its SHA-256."""
+    return (made.output, made.sha256), (made.output + NOTES, made.notes)
+
+
+def state_of(there: Optional[os.stat_result]) -> State:
+    """By what a file that stood at a name is known again."""
+    return None if there is None else (there.st_ino, there.st_mtime_ns)
 
 
 class TreeLog(Log):
@@ -58,7 +93,9 @@ class TreeLog(Log):
         self._of_content: Dict[str, Made] = {}
         self._own: Dict[Tuple[str, str], Set[str]] = {}
         self._last: Dict[str, Made] = {}
-        self._at_ns: Dict[str, int] = {}
+        # Of each name the SHA-256 of what was written last, and when that was about to be placed and in the place of what.
+        self._newest: Dict[str, Optional[str]] = {}
+        self._stood: Dict[str, Tuple[int, State]] = {}
         self._whole: Set[Tuple[str, str]] = set()
         # Of which file the last output of each name is.
         self._source_of: Dict[str, str] = {}
@@ -74,11 +111,15 @@ class TreeLog(Log):
         self._note(made, told["absolute"], told.get("sha256"))
         # What another program recovered, this one may recover otherwise; and an older LOG doesn't tell all of it.
         if is_current and made.mapped is not None and made.notes is not None and isinstance(told.get("sha256"), str):
-            self._of_content[told["sha256"]] = replace(made, placed=None, at_ns=None)
+            self._of_content[told["sha256"]] = bare(made)
 
     def _note(self, made: Made, source: str, content: Optional[str]) -> None:
         """Knows again what was written of a file of such a name and content, and under which names."""
-        for name, digest in ((made.output, made.sha256), (made.output + NOTES, made.notes)):
+        if made.foreign:
+            return
+        for (name, digest), stood in zip(names_of(made), made.stood or (None, None)):
+            self._newest[name] = digest
+            self._stood[name] = made.at_ns or 0, stood
             # (what stood there before is no run's any more: somebody who puts it back wants it there)
             if made.placed:
                 self._own.pop((name, source), None)
@@ -91,8 +132,7 @@ class TreeLog(Log):
                 self._contents_of.setdefault((name, digest), set()).add(content or "")
         if made.is_whole:
             self._whole.add((made.output, made.sha256))
-        self._last[made.output] = replace(made, placed=None, at_ns=None)
-        self._at_ns[made.output] = made.at_ns or 0
+        self._last[made.output] = bare(made)
 
     def recovered_of(self, digest: Optional[str]) -> Optional[Made]:
         """What this program recovered of a content."""
@@ -108,11 +148,16 @@ class TreeLog(Log):
 
     def is_own(self, name: str, digest: str, source: str, there: Optional[os.stat_result]) -> bool:
         """Whether a run wrote a file of such a name and content below OUT, of this source and no other, and none has put another in its place: it is what
-        was written last, or what stood there before where that was never placed, and nobody touched since. (Notes follow their drawing.)"""
+        was written last, or what stood there before where that was never placed, and nobody touched since (but for a link, as a run makes one)."""
         if digest not in self._own.get((name, self._places.name_of(source)), ()):
             return False
-        last = self._last.get(name)
-        return last is None or digest == last.sha256 or there is not None and there.st_ctime_ns <= self._at_ns[name]
+        if digest == self._newest.get(name):
+            return True
+        at_ns, stood = self._stood[name]
+        if there is None or stood is None or stood != state_of(there):
+            return False
+        # (notes are moved aside, and perhaps put back)
+        return name not in self._last or there.st_ctime_ns <= at_ns or there.st_nlink > 1
 
     def is_of(self, name: str, digest: str, content: Optional[str]) -> bool:
         """Whether a run wrote a file of such a name and content below OUT, of a source of this content."""
@@ -122,26 +167,32 @@ class TreeLog(Log):
         """Whether a run wrote a file of such a name and content below OUT, as a copy of what was whole."""
         return (name, digest) in self._whole
 
-    def add(self, line: Line) -> None:
-        """Keeps what is known of a content, and what was written of it, where LOG doesn't have that."""
+    def add(self, line: Line, stood: Optional[Tuple[State, State]] = None) -> None:
+        """Keeps what is known of a content, and what was written of it and in the place of what, where LOG doesn't have that."""
         # (a content that this run has met is added again where it stands twice)
         is_known = line.sha256 is None or line.verdict == "failed" or self.of_content(line.sha256) is not None
         if is_known and (line.made is None or self._last.get(line.made.output) == line.made):
             return
-        self.keep(line)
+        self.keep(line, stood)
 
-    def keep(self, line: Line) -> None:
-        """Keeps what is known of a content, and what is about to be placed of it."""
-        self._keep(line, None if line.made is None else replace(line.made, at_ns=time.time_ns()))
+    def keep(self, line: Line, stood: Optional[Tuple[State, State]]) -> None:
+        """Keeps what is known of a content, and what is about to be placed of it, in the place of what."""
+        self._keep(line, None if line.made is None else replace(line.made, at_ns=time.time_ns(), stood=stood))
 
     def stands(self, line: Line) -> None:
         """Keeps it that what was written of a file stands, where runs wrote other outputs of it before."""
         if line.made is None:
             return
         made, source = line.made, self._places.name_of(line.path)
-        written = ((made.output, made.sha256), (made.output + NOTES, made.notes))
-        if any(self._own.get((name, source), set()) - {digest} for name, digest in written):
+        if any(self._own.get((name, source), set()) - {digest} for name, digest in names_of(made)):
             self._keep(line, replace(made, placed=True))
+
+    def stands_by_another(self, line: Line) -> None:
+        """Keeps what is known of a content, of which somebody else put there what would be written."""
+        made = None if line.made is None or line.made.notes is None else replace(line.made, foreign=True)
+        is_known = line.sha256 is None or self.of_content(line.sha256) is not None
+        if not is_known or made is not None and self.recovered_of(line.sha256) is None:
+            self._keep(line, made)
 
     def _keep(self, line: Line, made: Optional[Made]) -> None:
         """Keeps a line."""

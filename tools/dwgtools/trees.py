@@ -3,18 +3,22 @@
 from __future__ import annotations
 
 import argparse
+import collections
 import contextlib
 import errno
 import os
 import stat
+import unicodedata
 from dataclasses import dataclass
 from typing import Dict, Iterable, Iterator, List, Optional, Set, Tuple
 
 from .escapes import one_line
-from .log import absolute_name, is_away
+from .log import is_away
+from .outputs import is_listed
 from .statuses import Exit, ToolError
 from .streams import as_file, is_one_file, is_standard, outputs, refuse_streams
 from .walking import Named, Walk, below, status_of, walk_of, walked
+from .whole_names import absolute_name
 
 # The name of LOG below OUT.
 LOG_NAME = "dwg-recover.log"
@@ -130,6 +134,18 @@ def without_clashes(found: List[Planned]) -> Iterator[Planned]:
             yield Planned(one.path, one.fault, one.name, "its notes would have the name of a folder")
         else:
             yield one
+
+
+def alike(found: Iterable[Planned]) -> Set[str]:
+    """The names of files of which a file system may take one for another, or its notes, as by small letters or by how a letter is composed."""
+    named = [(one.name, unicodedata.normalize("NFC", name).casefold()) for one in found for name in (one.name, one.name + NOTES)]
+    counts = collections.Counter(folded for _, folded in named)
+    return {name for name, folded in named if counts[folded] > 1}
+
+
+def is_spelled_so(out: str, name: str) -> bool:
+    """Whether what stands below OUT has its name as it is spelled, and so have the folders that it stands in."""
+    return all(is_listed(os.path.join(out, part)) for part in (name, *folders_of(name)))
 
 
 def planned(options: argparse.Namespace) -> List[Planned]:

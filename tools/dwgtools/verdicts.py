@@ -13,7 +13,7 @@ from dataclasses import replace
 from typing import IO, Iterator, Optional, Set
 
 from .file import end_of_drawing, has_header, preview_of, sections_of, version_of_rest
-from .inputs import again, bytes_of, from_begin, kept, pieces_of, private_file, put
+from .inputs import again, bytes_of, from_begin, is_hollow, kept, pieces_of, private_file, put
 from .log import Log
 from .looks import inner_drawing, is_text, looks_like, section_of_drawing, zeros_of
 from .notes import Kept, Refusal, TooLarge, read_note
@@ -81,7 +81,7 @@ class Checker:
     def content(self, file: IO[bytes], row: Row) -> Iterator[IO[bytes]]:
         """What is judged: the file, or where its line has a SHA-256 the very bytes that have it, which nobody can change meanwhile."""
         size = row.bytes or 0
-        if self.log is None or size > LIMIT and not self.has_all_digests and not self.log.has_digest(row.path):
+        if self.log is None or size > LIMIT and not self.has_all_digests and not self.log.has_digest(row.path) or is_hollow(file, size):
             yield file
             return
         try:

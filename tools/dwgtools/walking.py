@@ -120,12 +120,16 @@ def is_first(folder: str, seen: Set[Tuple[int, int]]) -> bool:
     return is_new
 
 
-def is_folder(entry: "os.DirEntry[str]", follow: bool) -> bool:
-    """Whether an entry is a folder; one of which that can't be told is looked at as a file."""
+def is_folder(entry: "os.DirEntry[str]", follow: bool) -> Optional[bool]:
+    """Whether an entry is a folder; None where that can't be told, as of a link that leads to nothing, or to where nobody may look."""
     try:
-        return entry.is_dir(follow_symlinks=follow)
-    except OSError:
+        if entry.is_dir(follow_symlinks=follow):
+            return True
+        if follow and entry.is_symlink():
+            entry.stat()
         return False
+    except OSError:
+        return None
 
 
 def is_link(entry: "os.DirEntry[str]") -> bool:
@@ -141,10 +145,10 @@ def entries_of(folder: str, walk: Walk, top: str) -> Iterator[Tuple[str, bool]]:
     with os.scandir(folder) as entries:
         found = sorted((entry for entry in entries if not walk.leaves_out(entry, top)), key=lambda entry: os.fsencode(entry.name))
     for entry in found:
-        if is_folder(entry, walk.follow):
-            yield entry.path, True
-        elif walk.takes(entry):
-            yield entry.path, False
+        is_one = is_folder(entry, walk.follow)
+        # (what may be a folder is told, whatever it is called)
+        if is_one or is_one is None or walk.takes(entry):
+            yield entry.path, bool(is_one)
 
 
 # How much of a name is taken; no file has one of half as many bytes.

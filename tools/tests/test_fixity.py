@@ -17,6 +17,7 @@ from typing import Any, Dict, List
 
 import common
 import made
+import test_safety
 from made import TOOLS, dwg, program_that, tool
 
 from dwgtools.certificates import Certificates
@@ -183,11 +184,170 @@ class Fixity(common.InFolder):
         # What comes back is the same.
         self.file("d/b.dwg", self.data["b.dwg"])
         self.assertEqual((self.keep().stderr, self.compared()["b.dwg"]), (self.gone(False, "deep/c.dwg"), "same"))
-        self.assertEqual(self.keep("--forget", self.archive / "deep").stderr, self.gone(True, "deep/c.dwg"))
+        self.assertEqual(self.keep("--forget", self.archive / "deep" / "c.dwg").stderr, self.gone(True, "deep/c.dwg"))
         self.assertEqual((self.keep().stderr, self.compare().returncode), (b"", 0))
         (self.archive / "b.dwg").unlink()
         self.assertEqual(self.keep("--forget", self.archive).stderr, self.gone(True, "b.dwg"))
         self.assertEqual((self.compare().returncode, sorted(self.compared())), (0, ["a.dwg", "x.dwg"]))
+
+    def test_where_nothing_can_be_read_nothing_is_forgotten(self) -> None:
+        """A folder that has nothing, or isn't there, may be one in which a volume isn't mounted, or a link to one."""
+        (self.folder / "e").mkdir()
+        self.file("e/e.dwg", made.made(9))
+        self.keep(self.archive, self.folder / "e")
+        away, known = self.folder / "away", 4
+        os.rename(self.archive, away)
+        nothing = "dwg-check: nothing was found to check; of folders only *.dwg is taken, and --all takes every file\n"
+        said = "dwg-check: {}: {} of its files are gone, which it keeps ({}); the first is {}/a.dwg\n"
+        why = "since nothing can be read where they were"
+        self.assertEqual(self.keep().stderr.decode(), said.format(self.log, known, "--forget has it forget them", self.archive))
+        for is_there in (False, True):
+            if is_there:
+                self.archive.mkdir()
+            for words in ([self.archive], [f"{self.archive}//", self.folder / "e"]):
+                ran = self.keep("--forget", *words)
+                status = 66 if is_there and len(words) == 1 else 0 if is_there else 1
+                self.assertEqual((ran.returncode, ran.stderr.decode()), (status, said.format(self.log, known, why, self.archive) + nothing * (status == 66)), words)
+        (self.archive / "plans").symlink_to("/nowhere/plans")
+        self.assertEqual(self.keep("--forget", "--follow", self.archive).stderr.decode(), said.format(self.log, known, why, self.archive))
+        (self.archive / "plans").unlink()
+        self.assertEqual(sorted(self.compared().values()), ["missing"] * 4 + ["same"])
+        # One that is named is forgotten, and so are all where one can be read.
+        self.assertEqual(self.keep("--forget", self.archive / "a.dwg").stderr, self.gone(True, "a.dwg"))
+        os.rename(away / "b.dwg", self.archive / "b.dwg")
+        self.assertEqual(self.keep("--forget", f"{self.archive}/").stderr, self.gone(True, "deep/c.dwg", 2))
+        self.assertEqual(self.compare().returncode, 0)
+
+    def other(self, name: str) -> bytes:
+        """What is said of a file whose other content LOG takes."""
+        return f"dwg-check: {self.log}: 1 of its files have another content now, which it takes; the first is {self.archive}/{name}\n".encode()
+
+    def test_another_content_is_taken_once_it_is_told(self) -> None:
+        """A run that ends before tells nothing, as where nobody takes its table, and then the next one does, with --resume too."""
+        self.keep()
+        kept = self.log.read_bytes()
+        unfinished = ['dwg-check --quiet --fixity "$1" "$2" | head -c 0', 'dwg-check --quiet --resume "$1" "$2" | head -c 0']
+        unfinished += ['dwg-check --quiet --fixity "$1" "$2" >/dev/full', 'dwg-check --quiet --fixity "$1" "$2" 2>/dev/full'] if os.path.exists("/dev/full") else []
+        last = (lambda: self.keep(), lambda: tool("dwg-check", "--quiet", "--resume", self.log, self.archive), lambda: tool("dwg-check", "--quiet", "--resume", self.log, "--verify", self.archive))
+        for count, script in enumerate(unfinished):
+            self.file("d/b.dwg", made.made(20 + count))
+            for _ in range(2):
+                ran = test_safety.in_bash(script, self.log, self.archive)
+                self.assertEqual((self.log.read_bytes(), b"b.dwg" in ran.stderr), (kept, False), script)
+                self.assertTrue(self.compared()["b.dwg"].startswith("changed it had"), script)
+            self.assertEqual((self.compare().returncode, self.keep(self.archive / "deep").stderr), (68, b""))
+            self.assertEqual(last[count % 3]().stderr, self.other("b.dwg"), count)
+            self.assertEqual((self.keep().stderr, self.compare().returncode, self.keep().stderr), (b"", 0, b""))
+            kept = self.log.read_bytes()
+        # Where it can't be told that is the status.
+        if len(unfinished) == 4:
+            self.file("d/b.dwg", made.made(30))
+            self.assertEqual([test_safety.in_bash(unfinished[3], self.log, self.archive).returncode, self.keep().returncode], [70, 1])
+
+    def test_a_link_leads_where_it_led_until_it_is_told(self) -> None:
+        """Whatever else is told of its file, or couldn't be read of it for a while."""
+        for at, name in enumerate(("a.dwg", "b.dwg")):
+            self.file(name, made.made(40 + at))
+        link = self.archive / "l.dwg"
+        link.symlink_to("../a.dwg")
+        self.keep(self.archive, link)
+        led = f"changed it led to {self.folder}/a.dwg"
+
+        def lead(target: str) -> None:
+            link.unlink()
+            link.symlink_to(target)
+
+        lead("../n.dwg")
+        self.keep(self.archive, link)
+        self.file("n.dwg", made.made(50))
+        self.assertEqual((self.compared(link)["l.dwg"], self.keep(link).stderr), (led, self.other("l.dwg")))
+        # A file that LOG has is told, though its content is that of the file to which the link led.
+        self.keep(self.folder / "b.dwg")
+        self.file("b.dwg", made.made(50))
+        lead("../b.dwg")
+        said = f"dwg-check: {self.log}: 1 of its files have another content now, which it takes; the first is {self.folder}/b.dwg\n"
+        self.assertEqual(self.keep(link).stderr.decode(), said)
+        # A new link to a file that changed is kept too.
+        (self.archive / "m.dwg").symlink_to("../b.dwg")
+        self.file("b.dwg", made.made(51))
+        self.keep(self.archive / "m.dwg", self.folder / "b.dwg")
+        self.assertEqual(self.compare().returncode, 0)
+        (self.archive / "m.dwg").unlink()
+        self.assertEqual(self.compared()["m.dwg"], "missing")
+
+    def test_what_is_looked_at_again_takes_nothing(self) -> None:
+        """A drawing whose certificate is gone is read again, though LOG has its size and time from before."""
+        self.keep()
+        path, certificate = self.archive / "b.dwg", self.certificate("b.dwg")
+        told = path.stat()
+        self.file("d/b.dwg", made.made(20))
+        self.keep()
+        certificate.unlink()
+        path.write_bytes(made.flipped(self.data["b.dwg"], 300, 1))
+        os.utime(path, ns=(told.st_atime_ns, told.st_mtime_ns))
+        before = self.log.read_bytes()
+        self.assertEqual(self.keep().stderr, b"")
+        self.assertEqual([json.loads(line)["verdict"] for line in self.log.read_bytes()[len(before) :].splitlines()], ["changed"])
+        self.assertTrue(self.compared()["b.dwg"].startswith("changed it had"))
+
+    def test_a_large_file_that_became_holes_is_changed(self) -> None:
+        large = self.archive / "z.dwg"
+        with open(large, "wb") as file:
+            file.write(os.urandom(1 << 16) * 1040)
+        self.keep()
+        told = large.stat()
+        with open(large, "wb") as file:
+            file.truncate(told.st_size)
+        os.utime(large, ns=(told.st_atime_ns, told.st_mtime_ns))
+        ran = tool("dwg-check", "--quiet", "--resume", self.log, "--verify", self.archive)
+        self.assertIn(f"{large}\tchanged\t".encode(), ran.stdout)
+        self.assertEqual(self.compared()["z.dwg"], "changed of the same size and time")
+
+    def test_a_new_link_to_what_is_gone_hides_nothing(self) -> None:
+        """It has a line, and so has the file, whether it stands elsewhere or nowhere."""
+        self.keep()
+        (self.archive / "a a.dwg").symlink_to("b.dwg")
+        os.rename(self.archive / "b.dwg", self.archive / "n.dwg")
+        self.assertEqual(self.compared("--follow", self.archive), {
+            "a a.dwg": "unreadable No such file or directory", "a.dwg": "same", "n.dwg": "moved b.dwg -> n.dwg", "deep/c.dwg": "same", "x.dwg": "same",
+        })  # fmt: skip
+        (self.archive / "n.dwg").unlink()
+        for words in (["--follow", self.archive], [self.archive / name for name in ("a a.dwg", "b.dwg", "a.dwg")]):
+            found = self.compared(*words)
+            self.assertEqual((found["a a.dwg"], found["b.dwg"]), ("unreadable No such file or directory", "missing"))
+        # LOG has it by its own name alone, whatever the link's is.
+        self.keep("--follow", self.archive)
+        self.assertEqual(self.compared("--follow", self.archive)["b.dwg"], "missing")
+
+    def test_what_could_not_be_read_is_looked_at_again(self) -> None:
+        """Though LOG has it from before with the size and time that it has."""
+        self.keep()
+        row = next(row for row in self.lines() if row.get("absolute") == str(self.archive / "x.dwg"))
+        nothing = {name: None for name in ("findings", "bytes", "trailing", "mtime_ns", "sha256", "refusal")}
+        with open(self.log, "ab") as file:
+            file.write(made.log_of([{**row, **nothing, "verdict": "unreadable", "detail": os.strerror(5), "version": ""}]))
+        said = "dwg-check: 4 files: 3 sound, 1 damaged; {} unread, as LOG has them\n"
+        for unread in (3, 4):
+            self.assertEqual(tool("dwg-check", "--fixity", self.log, self.archive).stderr.decode(), said.format(unread))
+
+    def test_what_is_mostly_holes_is_not_read(self) -> None:
+        """A file of years takes no room on a disk."""
+        self.file("d/z.dwg", made.made(7))
+        self.keep()
+        for name in ("y.dwg", "z.dwg"):
+            with open(self.archive / name, "wb") as file:
+                file.truncate(1 << 43)
+        ran = self.keep()
+        self.assertEqual((ran.returncode, ran.stderr, ran.stdout.count(f"\t{1 << 43}\t".encode())), (1, self.other("z.dwg"), 2))
+        compared = self.compared()
+        self.assertEqual((compared["y.dwg"], compared["z.dwg"]), ("new no drawing: the first 33619968 bytes are zero", f"changed it had {len(made.made(7))} bytes"))
+        # What has as much on the disk as its size says is read, and so is a little hole.
+        large = self.archive / "y.dwg"
+        with open(large, "wb") as file:
+            file.seek(1 << 26)
+            file.write(bytes(1 << 21))
+        self.keep()
+        self.assertEqual(self.compared()["y.dwg"], "same")
 
     def test_a_file_that_was_moved_is_not_gone(self) -> None:
         """Of two files of one content, of which one stands elsewhere now, the other is."""
@@ -203,8 +363,9 @@ class Fixity(common.InFolder):
         os.rename(self.archive, self.folder / "e")
         self.assertEqual(self.keep(self.folder / "e").stderr, b"")
         self.assertEqual(sorted(row.split("\t")[1] for row in self.compare(self.folder / "e").stdout.decode().splitlines()[1:]), ["missing"] * 4 + ["same"] * 3)
-        self.assertEqual(self.keep("--forget", self.archive).stderr, self.gone(True, "b.dwg", 4))
-        self.assertEqual(self.compare(self.folder / "e").returncode, 0)
+        names = os.linesep.join(str(self.archive / name) for name in ("b.dwg", "c.dwg", "n.dwg", "x.dwg"))
+        ran = tool("dwg-check", "--quiet", "--fixity", self.log, "--forget", "-", given=names.encode())
+        self.assertEqual((ran.stderr, self.compare(self.folder / "e").returncode), (self.gone(True, "b.dwg", 4), 0))
 
     def test_what_was_not_read_is_counted(self) -> None:
         """A bit of the same size and time is seen where files are read, and the others are told."""

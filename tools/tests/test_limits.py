@@ -118,10 +118,10 @@ class Time(Checked):
         self.log, self.count = self.folder / "log", self.folder / "count"
         self.slow = self.refusing(f'[ "$1" != recover ] || {{ echo >>"{self.count}"; while :; do :; done; }}')
 
-    def resumed(self, *words: object, lines: str = "") -> List[List[str]]:
-        """What a run with LOG says, in which `recover` has a moment."""
+    def resumed(self, *words: object, lines: str = "", others: int = 0) -> List[List[str]]:
+        """What a run with LOG says, in which `recover` has a moment; so many files have another content than LOG has."""
         ran = otherwise("dwg-check", lines or "verdicts.MOST_SECONDS = 0.3", "--quiet", "--resume", self.log, "--program", self.slow, *words, self.folder / "d")
-        self.assertEqual((ran.returncode, ran.stderr), (1, b""))
+        self.assertEqual((ran.returncode, ran.stderr.count(b"have another content now"), ran.stderr.count(b"\n")), (1, others, others), ran.stderr)
         return [row[1:] for row in rows(ran.stdout)]
 
     def runs(self) -> int:
@@ -143,7 +143,7 @@ class Time(Checked):
         self.assertNotIn("lasting", json.loads(self.log.read_bytes().splitlines()[1]))
         # Another content is tried, and so is the same by another program.
         path.write_bytes(b"\x80XX\0" + bytes(range(255)))
-        self.assertEqual((self.resumed(), self.runs()), (failed * 2, 1))
+        self.assertEqual((self.resumed(others=1), self.runs()), (failed * 2, 1))
         self.slow.write_text(self.slow.read_text() + "\n")
         self.assertEqual((self.resumed(), self.runs()), (failed * 2, 2))
         self.assertEqual((self.resumed(), self.runs()), (failed * 2, 0))

@@ -4,9 +4,11 @@ from __future__ import annotations
 
 import os
 import pathlib
+import random
 import shutil
 import subprocess
 import sys
+import tempfile
 import time
 import unittest
 import unittest.mock
@@ -21,6 +23,7 @@ from dwgtools import verdicts
 from dwgtools.log import Log
 from dwgtools.program import Program
 from dwgtools.verdicts import Checker
+from dwgtools.whole_names import absolute_name
 
 made.needs_program()
 
@@ -55,6 +58,52 @@ class Names(common.InFolder):
         lines = [line.split("\t") for line in ran.stdout.decode().replace(f"{self.folder}/", "").splitlines()[1:]]
         self.assertEqual(len(lines), len({line[0] for line in lines}), ran.stdout)
         return ran.returncode, {line[0]: f"{line[1]} {line[2]}".strip() for line in lines}
+
+    def test_whole_names_are_those_of_the_system(self) -> None:
+        """Also where folders and links are moved meanwhile."""
+        chance = random.Random(7)
+        for _ in range(20):
+            top = pathlib.Path(tempfile.mkdtemp(dir=self.folder))
+            folders = [top]
+            for at in range(12):
+                path = chance.choice(folders) / f"f{at}"
+                if chance.random() < 0.6:
+                    path.mkdir()
+                    folders.append(path)
+                else:
+                    path.symlink_to(chance.choice([chance.choice(folders), f"../f{chance.randrange(12)}", "nowhere", path.name]))
+                    folders += [path] if path.is_dir() else []
+            for _ in range(60):
+                path = chance.choice(folders) / chance.choice(["x.dwg", "..", "../x.dwg", "f1", "f2/f3", "f4//x.dwg", "f5/", ".", "f6/../x.dwg"])
+                self.assertEqual(absolute_name(str(path)), os.path.realpath(path))
+                moved = chance.choice(folders[1:] or [path])
+                if chance.random() < 0.3 and moved.exists():
+                    os.rename(moved, top / f"n{chance.randrange(1000)}")
+                if chance.random() < 0.3 and moved.is_symlink():
+                    moved.unlink()
+                    moved.symlink_to(chance.choice(folders))
+
+    def test_deep_folders_hold_nothing_up(self) -> None:
+        """To find the whole name of a file a system looks at each folder on its way, and at the way to each."""
+        before, inner = os.getcwd(), "d" + "/a" * ((3900 - len(str(self.folder))) // 2)
+        self.addCleanup(os.chdir, before)
+        # (Python removes no such folder)
+        self.addCleanup(subprocess.run, ["rm", "-rf", str(self.folder / "d")], check=True)
+        os.chdir(self.folder)
+        for name in inner.split("/"):
+            os.mkdir(name)
+            os.chdir(name)
+        for at in range(30):
+            os.mkdir(f"d{at:02}")
+            pathlib.Path(f"d{at:02}/f.dwg").write_bytes(b"%d" % at)
+        os.chdir(before)
+        calls, real = [0], os.lstat
+        with unittest.mock.patch("os.lstat", lambda *words, **more: (calls.append(0), real(*words, **more))[1]):
+            for at in range(30):
+                path = f"{self.folder}/{inner}/d{at:02}/f.dwg"
+                self.assertEqual(absolute_name(path), path)
+        self.assertLess(len(calls), 3 * inner.count("/"))
+        self.assertEqual((self.keep(self.folder / "d"), self.compare(self.folder / "d")[0]), ([], 0))
 
     def test_a_folder_that_leads_elsewhere_while_a_file_is_read(self) -> None:
         """Nobody knows then of which of both files the line is."""
@@ -261,10 +310,13 @@ class Names(common.InFolder):
         self.assertEqual(self.keep("-", given=names), told)
         self.assertEqual(self.keep("--forget", "-", given=names), [gone("and it has them no more")])
         self.assertEqual(self.compare(), (0, {"d/c.dwg": "same", "d/z.dwg": "same"}))
-        # Also of a folder that is gone itself.
+        # Those of a folder that is gone itself are forgotten by their own names alone.
         shutil.rmtree(volume)
-        for option, what in (("--quiet", "which it keeps (--forget has it forget them)"), ("--forget", "and it has them no more")):
-            self.assertEqual(self.keep(option, "-", given=names), [f"2 of its files are gone, {what}; the first is d/c.dwg"])
+        for option, what in (("--quiet", "--forget has it forget them"), ("--forget", "since nothing can be read where they were")):
+            self.assertEqual(self.keep(option, "-", given=names), [f"2 of its files are gone, which it keeps ({what}); the first is d/c.dwg"])
+        missing = tool("dwg-check", "--quiet", "--fixity", self.log, "--verify", "--print0", "missing").stdout
+        self.assertEqual(missing.count(b"\0"), 2)
+        self.assertEqual(self.keep("--forget", "--null", "-", given=missing), ["2 of its files are gone, and it has them no more; the first is d/c.dwg"])
 
     def test_files_of_which_there_is_no_content_are_compared(self) -> None:
         """Without words too: of one that couldn't be read, and still can't be."""

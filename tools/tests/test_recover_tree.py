@@ -32,7 +32,7 @@ from dwgtools.log_lines import NoLine
 from dwgtools.statuses import ToolError
 from dwgtools.tree_lines import Line, Made
 from dwgtools.tree_log import read_made
-from dwgtools.trees import Planned, Sources, opened_folder
+from dwgtools.trees import Planned, Sources, alike, is_spelled_so, opened_folder
 
 made.needs_program()
 
@@ -957,8 +957,8 @@ class Resumed(Tree):
         """Whatever ends a run once an output stands, a later one knows it again, though the input has another content then."""
         order: List[str] = []
         grower = growing.Growing.__new__(growing.Growing)
-        grower.one, grower.out = Planned("a.dwg", None, "a.dwg"), "a.dwg"
-        grower.tree = SimpleNamespace(add=lambda line: order.append(f"log {line.made.output}"), stands=lambda line: order.append("stands"), fault="")
+        grower.one, grower.out, grower.notes = Planned("a.dwg", None, "a.dwg"), "a.dwg", "a.dwg.notes"
+        grower.tree = SimpleNamespace(add=lambda line, _: order.append(f"log {line.made.output}"), stands=lambda line: order.append("stands"), fault="")
         grower.grower = SimpleNamespace(alone=lambda file: contextlib.nullcontext(), written=set())
         grower.may_replace = lambda file, line, made, files: None
         whole = SimpleNamespace(finish=lambda: None, name="a.dwg", there=lambda name: None, force=False)
@@ -1073,11 +1073,12 @@ outputs.WholeFile.place = killing
             7, "x", [], {}, {**made_line, "sha256": "0"}, {**made_line, "sha256": None}, {**made_line, "notes": 7}, {**made_line, "kept": -1}, {**made_line, "lost": "1"},
             {**made_line, "found": True}, {**made_line, "findings": 1.5}, {**made_line, "output": None}, {**made_line, "parts": None}, {**made_line, "parts": {"x": 1}},
             {**made_line, "parts": {"map page": "1"}}, {**made_line, "mapped": 1}, {**made_line, "output": "\0"}, {**made_line, "output": "\ud800.dwg"},
+            {**made_line, "stood": [None]}, {**made_line, "stood": [None, [1]]}, {**made_line, "stood": [[1, "2"], None]}, {**made_line, "stood": [[-1, 2], None]}, {**made_line, "stood": 7},
         ]  # fmt: skip
         for one in wrong:
             with self.assertRaises(NoLine, msg=one):
                 read_made(one)
-        self.assertEqual(asdict(read_made(made_line)), made_line)  # type: ignore[call-overload]
+        self.assertEqual(json.loads(json.dumps(asdict(read_made(made_line)))), made_line)  # type: ignore[call-overload]
         log.write_bytes(made.log_of([head, {**told, "made": wrong[0]}]))
         self.grown(1, name, said=f"dwg-recover: {log}: a damaged line is passed, the first is line 2\ndwg-recover: 1 files: 1 recovered\n")
         # Who has LOG tell another content of what stands there gives that away, and nothing else.
@@ -1427,10 +1428,70 @@ class Replaced(Tree):
         self.assertEqual(len(lines) - len(unplaced), 2)
         log.write_bytes(made.log_of(unplaced))
         self.assertEqual([row["outcome"] for row in self.grown(73, source)], ["refused"])
-        later = time.time_ns() + 10**9
-        log.write_bytes(made.log_of({**line, "made": {**line["made"], "at_ns": later}} if line.get("made") else line for line in unplaced))
-        self.grown(1, source)
+        later, stand = time.time_ns() + 10**9, [[(told := path.stat()).st_ino, told.st_mtime_ns] for path in (out, Path(f"{out}.notes"))]
+        for at_ns, stood, status in ((later, None, 73), (later, [None, None], 73), (later, [stand[1], stand[0]], 73), (0, stand, 73), (later, stand, 1)):
+            told_so = ({**line, "made": {**line["made"], "at_ns": at_ns, "stood": stood}} if line.get("made") else line for line in unplaced)
+            log.write_bytes(made.log_of(told_so))
+            self.grown(status, source)
         self.assertEqual({name: data for name, data in tree_of(self.out).items() if name in after}, after)
+
+    def test_what_somebody_else_put_there_stays_his(self) -> None:
+        """Though it is just what would be written, and so stands for it: a backup that was copied, or what was recovered by hand."""
+        source, out, notes = self.plans / "x.dwg", self.out / "x.dwg", self.out / "x.dwg.notes"
+        self.out.mkdir(exist_ok=True)
+        for data, status in ((drawn(20, 1), 0), (older(drawn(20, 1)), 1)):
+            shutil.rmtree(self.out)
+            self.out.mkdir()
+            source.write_bytes(data)
+            if status:
+                tool("dwg-recover", source, out)
+            else:
+                shutil.copy(source, out)
+            before = {path: (path.read_bytes(), path.stat().st_ino, path.stat().st_mtime_ns) for path in (out, notes) if path.exists()}
+            for _ in range(3):
+                (row,) = self.grown(status, "--whole", "copy", source)
+                self.assertEqual((row["outcome"], row["output"]), ("recovered" if status else "sound", str(out)))
+            self.assertEqual(len(made.read_log(self.out / LOG)), 2)
+            for other in (drawn(21, 1), older(drawn(21, 1)), data[:-9]):
+                source.write_bytes(other)
+                self.assertEqual([row["outcome"] for row in self.grown(73, "--whole", "copy", source)], ["refused"])
+            self.assertEqual({path: (path.read_bytes(), path.stat().st_ino, path.stat().st_mtime_ns) for path in (out, notes) if path.exists()}, before)
+            source.write_bytes(older(drawn(22, 1)))
+            self.grown(1, "--force", source)
+            self.assertEqual(out.read_bytes(), dwg("recover", given=source.read_bytes()).stdout)
+
+    def test_a_run_that_is_killed_while_it_places_is_taken_up_again(self) -> None:
+        """Whatever of the old output and its notes stands then; and what was put back after it from elsewhere stays."""
+        source, out = self.plans / "x.dwg", self.out / "x.dwg"
+        kept = self.folder / "kept"
+        for is_placed, is_linked, is_put_back in itertools.product((False, True), (False, True), (False, True)):
+            shutil.rmtree(self.out, ignore_errors=True)
+            shutil.rmtree(kept, ignore_errors=True)
+            source.write_bytes(older(drawn(20, 1)))
+            self.grown(1, source)
+            shutil.copytree(self.out, kept)
+            stand = [[(told := path.stat()).st_ino, told.st_mtime_ns] for path in (out, Path(f"{out}.notes"))]
+            before = tree_of(self.out)
+            if is_linked:
+                os.link(out, self.out / ".x.dwg.0.part")
+            old = [path.rename(self.folder / path.name) for path in (out, Path(f"{out}.notes"))] if not is_placed else []
+            source.write_bytes(older(drawn(21, 1)))
+            self.grown(1, source)
+            after, lines = tree_of(self.out), made.read_log(self.out / LOG)
+            # (it ended before LOG had that it stands, and perhaps before it stood)
+            lines = [line for line in lines if not (line.get("made") or {}).get("placed")]
+            # (who is killed before the link has touched nothing, and after it notes are aside)
+            for path in old[: 1 if is_linked else 2]:
+                path.rename(self.out / path.name)
+            lines[-1]["made"].update(stood=stand, at_ns=lines[-1]["made"]["at_ns"] if is_linked else time.time_ns() + 10**8)
+            (self.out / LOG).write_bytes(made.log_of(lines))
+            if is_put_back:
+                for path in (out, Path(f"{out}.notes")):
+                    path.unlink(missing_ok=True)
+                    (kept / path.name).rename(path)
+            (row,) = self.grown(73 if is_put_back else 1, source)
+            self.assertEqual(row["outcome"], "refused" if is_put_back else "recovered", (is_placed, is_linked, is_put_back))
+            self.assertEqual({name: tree_of(self.out)[name] for name in before}, before if is_put_back else {name: after[name] for name in before})
 
     def test_an_output_that_was_put_back_where_nothing_stood_stays(self) -> None:
         """What a run writes onto a name where nothing stands, as after another was taken away, is what it left there, and nothing before."""
@@ -1507,14 +1568,54 @@ class Replaced(Tree):
             path.unlink()
 
     def test_outputs_of_one_run_replace_each_other_not(self) -> None:
-        """A file system may take two names for one, or somebody links one to the other meanwhile."""
+        """A file system may take two names for one, or somebody gives one the name of the other meanwhile."""
         for name in ("a.dwg", "b.dwg"):
             self.plans.joinpath(name).write_bytes(older(drawn(20, 1 + (name == "b.dwg"))))
-        link = f'[ "$1" != recover ] || [ ! -e "{self.out}/plans/a.dwg" ] || ln -f "{self.out}/plans/a.dwg" "{self.out}/plans/b.dwg"'
-        linking = program_that(self.folder, "linking", [link, 'exec "$REAL" "$@"'])
-        first, second = self.grown(73, "--force", "--jobs", "1", "--program", linking, self.plans)
+        move = f'[ "$1" != recover ] || [ ! -e "{self.out}/plans/a.dwg" ] || mv "{self.out}/plans/a.dwg" "{self.out}/plans/b.dwg"'
+        moving = program_that(self.folder, "moving", [move, 'exec "$REAL" "$@"'])
+        first, second = self.grown(73, "--force", "--jobs", "1", "--program", moving, self.plans)
         self.assertEqual((first["outcome"], second["outcome"]), ("recovered", "refused"))
         self.assertIn(f"{self.out}/plans/b.dwg is what this run has written of another file", second["detail"])
+
+    def test_outputs_that_are_one_file_are_replaced_each_by_itself(self) -> None:
+        """Somebody may link what is the same."""
+        for name in ("a.dwg", "b.dwg"):
+            self.plans.joinpath(name).write_bytes(older(drawn(20, 1)))
+        self.grown(1, self.plans)
+        for end in ("", ".notes"):
+            self.out.joinpath("plans", f"b.dwg{end}").unlink()
+            os.link(self.out / "plans" / f"a.dwg{end}", self.out / "plans" / f"b.dwg{end}")
+        before = tree_of(self.out)
+        self.plans.joinpath("b.dwg").write_bytes(older(drawn(21, 1)))
+        self.assertEqual([row["outcome"] for row in self.grown(1, self.plans)], ["recovered"] * 2)
+        after = tree_of(self.out)
+        self.assertEqual([name for name in before if before[name] != after[name]], [b"plans/b.dwg", b"plans/b.dwg.notes"])
+
+    def test_notes_of_somebody_beside_a_copy_that_stands(self) -> None:
+        source, notes = self.plans / "x.dwg", self.out / "x.dwg.notes"
+        source.write_bytes(drawn(20, 1))
+        self.grown(0, "--whole", "copy", source)
+        notes.write_bytes(b"his own")
+        (row,) = self.grown(0, "--whole", "copy", source)
+        self.assertEqual((row["outcome"], row["output"], notes.read_bytes()), ("sound", str(self.out / "x.dwg"), b"his own"))
+        self.assertEqual(row["detail"], f"{notes} is there too, and no notes of it")
+        source.write_bytes(drawn(21, 1))
+        self.assertEqual([row["outcome"] for row in self.grown(73, "--whole", "copy", source)], ["refused"])
+
+    def test_names_that_a_file_system_may_take_for_one(self) -> None:
+        """One that heeds no capital letters, and numbers its files by their names, shows by its folders alone what stands there."""
+        names = ["p/a.dwg", "p/A.dwg", "P/b.dwg", "p/b.dwg", "p/c.dwg", "p/C.DWG.notes", "p/\u00e9.dwg", "p/e\u0301.dwg", "p/d.dwg", "q/a.dwg", "p/\udcff.dwg"]
+        self.assertEqual(alike(Planned(name, name=name) for name in names), set(names[:8]))
+        (self.out / "p").mkdir(parents=True)
+        (self.out / "p" / "a.dwg").touch()
+        self.assertEqual([is_spelled_so(str(self.out), name) for name in ("p/a.dwg", "p/A.dwg", "P/a.dwg")], [True, False, False])
+        # Where they are two they are two.
+        for name in ("a.dwg", "A.dwg"):
+            self.plans.joinpath(name).write_bytes(older(drawn(20, 1 + (name == "a.dwg"))))
+        for _ in range(2):
+            self.assertEqual([row["outcome"] for row in self.grown(1, "--force", self.plans)], ["recovered"] * 2)
+            for path in (self.out / "plans").glob("*.dwg"):
+                path.write_bytes(b"another's")
 
     def test_files_that_became_links_are_told(self) -> None:
         """They aren't followed, and no line is theirs."""

@@ -85,6 +85,17 @@ class Walks(common.InFolder):
         ran = tool("dwg-check", "--follow", "--quiet", top, top / "link", elsewhere)
         self.assertEqual([line.split("\t")[0] for line in ran.stdout.decode().splitlines()[1:]], [str(top / name) for name in expected])
 
+    def test_a_link_that_may_lead_to_a_folder_is_told(self) -> None:
+        """As one to a volume that isn't mounted, or to where nobody may look."""
+        top = self.folder / "plans"
+        for link, target in (("away", "/nowhere/plans"), ("loop", "loop"), ("through", "a.dwg/plans"), ("notes", "../notes.txt")):
+            (top / link).symlink_to(target)
+        self.assertEqual(self.found(Walk(), "plans"), ["a.dwg", "old.dwg", "x y.dwg"])
+        self.assertEqual(self.found(Walk(follow=True), "plans"), ["a.dwg", "away", "loop", "old.dwg", "through", "x y.dwg"])
+        ran = tool("dwg-check", "--follow", "--quiet", "--only", "unreadable", top)
+        told = [line.split("\t")[:3] for line in ran.stdout.decode().splitlines()[1:]]
+        self.assertEqual((ran.returncode, told), (1, [[str(top / name), "unreadable", os.strerror(number)] for name, number in (("away", 2), ("loop", 40), ("through", 20))]))
+
     def test_a_tree_of_links_is_no_more_work_than_its_folders(self) -> None:
         """Forty folders with links to all of them have more ways through them than can be walked."""
         top = self.folder / "many"
