@@ -2,6 +2,12 @@
 
 from __future__ import annotations
 
+import os
+import pathlib
+import re
+import shutil
+import subprocess
+import tempfile
 import unittest
 from typing import List, NamedTuple, Sequence, Tuple
 
@@ -163,6 +169,59 @@ class Carry(unittest.TestCase):
         self.assertEqual(dwg("rewrite", given=given).stdout, data)
         ran = dwg("carry", given=given + bytes(MOST_BYTES))
         self.assertEqual((ran.returncode, ran.stdout, ran.stderr), (7, b"", b"dwg: input too long\n"))
+
+
+class Archive(unittest.TestCase):
+    """The recipe for an archive of docs/RECIPES.md, in a folder of its own. That it prints what is shown is looked at with all documents (test_docs)."""
+
+    def setUp(self) -> None:
+        self.folder = pathlib.Path(tempfile.mkdtemp(prefix="dwg carry "))
+        self.addCleanup(shutil.rmtree, self.folder)
+        (self.folder / "dwg").symlink_to(made.PROGRAM)
+        # The roots of the recipe: a link to a folder, and a folder.
+        (self.folder / "elsewhere").mkdir()
+        (self.folder / "samples").symlink_to("elsewhere")
+        (self.folder / "crates" / "dwg_cli" / "data").mkdir(parents=True)
+        self.kept = {"samples/q.dwg": 1, "samples/q.dwg.txt/z.DWG": 2, "samples/q.dwg.part/-y\n.dwg": 3, "crates/dwg_cli/data/a.dwg": 4}
+        for name, count in self.kept.items():
+            (self.folder / name).parent.mkdir(exist_ok=True)
+            (self.folder / name).write_bytes(WRITER.with_picture(made.made(count), PICTURE))
+
+    def expect(self, status: int, *lines: str, but: Sequence[str] = (), **more: str) -> None:
+        """The recipe ends with a status and prints these lines, and all other drawings are carried."""
+        shutil.rmtree(self.folder / "carried", ignore_errors=True)
+        found = re.search(r"^```sh\n(mkdir carried .*?)^```$", (TOP / "docs" / "RECIPES.md").read_text(), re.DOTALL | re.MULTILINE)
+        assert found is not None
+        environment = {**os.environ, "LC_ALL": "C", **more}
+        ran = subprocess.run(["sh", "-c", found[1]], cwd=self.folder, env=environment, stdin=subprocess.DEVNULL, capture_output=True, check=False)
+        self.assertEqual((ran.returncode, ran.stdout.decode().splitlines()), (status, [*lines]), ran.stderr)
+        carried = {str(path.relative_to(self.folder)): path.read_bytes() for path in self.folder.glob("carried/**/*.[dD][wW][gG]") if path.is_file()}
+        expected = [dwg("carry", given=(self.folder / name).read_bytes()).stdout for name in self.kept if name not in but]
+        self.assertEqual(sorted(data for name, data in carried.items() if "notes" not in name), sorted(expected))
+        self.assertEqual([path.name for path in (self.folder / "carried").rglob("*part")], [] if "samples/q.dwg" not in self.kept else ["q.dwg.part"] * 2)
+
+    def test_all_is_carried_whatever_the_names(self) -> None:
+        self.expect(0)
+
+    def test_notes_and_refusals_are_told(self) -> None:
+        shown = WRITER.with_picture(made.made(1), PICTURE)
+        (self.folder / "samples" / "q.dwg").write_bytes(made.flipped(shown, len(shown) - 1))
+        dropped = "0 samples/q.dwg: dwg: preview dropped"
+        self.expect(0, dropped)
+        (self.folder / "crates" / "dwg_cli" / "data" / "a.dwg").write_bytes(b"AC1015")
+        self.expect(1, dropped, "3 crates/dwg_cli/data/a.dwg: dwg: refused: header 0 at 6: short", but=["crates/dwg_cli/data/a.dwg"])
+
+    def test_what_cannot_be_carried_is_told(self) -> None:
+        name = "samples/q.dwg.txt/z.DWG"
+        shims = self.folder / "shims"
+        shims.mkdir()
+        shim = made.program_that(shims, "mkdir", ['case "$*" in *q.dwg.txt*) exit 1 ;; esac', f'exec {shutil.which("mkdir")} "$@"'])
+        self.expect(1, f"1 {name}: ", but=[name], PATH=f"{shim.parent}{os.pathsep}{os.environ['PATH']}")
+
+    def test_where_find_fails_the_status_says_so(self) -> None:
+        shutil.rmtree(self.folder / "crates")
+        del self.kept["crates/dwg_cli/data/a.dwg"]
+        self.expect(1)
 
 
 if __name__ == "__main__":

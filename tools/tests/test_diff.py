@@ -390,6 +390,13 @@ class Git(common.InFolder):
         # Of two files of which the same is said it is seen that they differ.
         self.file("drawings/b1.DWG", b"AC1032.")
         self.assertEqual([line[0] for line in self.git("diff").splitlines() if re.match("[-+][0-9a-f]{40}$", line)], ["-", "+"])
+        # So it is where git leaves a part of their content out of what it keeps.
+        for data in (b"AC1032$Id: one $", b"AC1032$Id: two $"):
+            self.file("drawings/b1.DWG", data)
+            self.git("commit", "--quiet", "--message", "Another", "b1.DWG")
+        (self.top / ".gitattributes").write_text("*.DWG diff=dwg ident\n")
+        found = self.git("diff", "HEAD~", "HEAD", "--", "b1.DWG").splitlines()
+        self.assertEqual([line[0] for line in found if re.match("[-+][0-9a-f]{40}$", line)], ["-", "+"])
 
     def test_where_the_tool_gives_no_answer_nothing_is_shown_as_the_same(self) -> None:
         (self.top / "a plan.dwg").write_bytes(made(2, 7))

@@ -9,9 +9,11 @@ import shutil
 import subprocess
 import tempfile
 import unittest
+from typing import Dict
+from unittest import mock
 
 import made
-from made import TOOLS
+from made import TOOLS, TOP
 
 CHECK = made.module(TOOLS / "check-docs", "check_docs")
 LAST = re.compile(r"^(\d+) examples? are as shown, (\d+) aren't, (\d+) not run \(make, rt ci\)$")
@@ -106,11 +108,93 @@ class Docs(unittest.TestCase):
         ):
             self.assertEqual(CHECK.is_shown(printed.split(), shown.split()), expected, (shown, printed))
 
+    def test_a_document_that_is_no_utf8(self) -> None:
+        path = self.folder / "page.md"
+        path.write_bytes(b"Caf\xe9.\n\n```sh\nprintf 'a\\351\\n'\n```\n\n```text\na\xe9\n```\n")
+        ran = check(path)
+        self.assertEqual((ran.returncode, ran.stdout[:22]), (0, "1 examples are as show"), ran.stderr)
+
+    def test_what_is_no_file_is_not_copied(self) -> None:
+        for name in ("top/tools", "top/out"):
+            (self.folder / name).mkdir(parents=True)
+        (self.folder / "top" / "dwg").symlink_to("nowhere")
+        (self.folder / "top" / "page").touch()
+        os.mkfifo(self.folder / "top" / "pipe")
+        with mock.patch.object(CHECK, "TOP", self.folder / "top"), CHECK.fresh_copy("/bin/true") as copy:
+            self.assertEqual((sorted(os.listdir(copy)), os.readlink(copy / "dwg")), (["dwg", "page", "tools"], "/bin/true"))
+
     def test_words(self) -> None:
         ran = check(self.folder / "nosuch.md")
         self.assertEqual(ran.returncode, 70)
         ran = subprocess.run([str(TOOLS / "check-docs"), "--nosuch"], capture_output=True, check=False)
         self.assertEqual(ran.returncode, 64)
+
+def has_parallel() -> bool:
+    """Whether the command `parallel` is GNU's."""
+    found = shutil.which("parallel")
+    return found is not None and b"GNU" in subprocess.run([found, "--version"], stdin=subprocess.DEVNULL, capture_output=True, check=False).stdout
+
+
+class Recipes(unittest.TestCase):
+    """What recipes do where something goes wrong, each in a folder of its own."""
+
+    def setUp(self) -> None:
+        made.needs_program()
+        self.folder = pathlib.Path(tempfile.mkdtemp(prefix="dwg recipes "))
+        self.addCleanup(shutil.rmtree, self.folder)
+        (self.folder / "dwg").symlink_to(made.PROGRAM)
+
+    def run_it(self, script: str, **more: str) -> "subprocess.CompletedProcess[str]":
+        """Runs a script in the folder."""
+        path = f"{self.folder}{os.pathsep}{TOOLS}{os.pathsep}{os.environ['PATH']}"
+        environment = {**os.environ, "PATH": path, "DWG": made.PROGRAM, "HOME": str(self.folder), **more}
+        words = ["sh", "-c", script]
+        return subprocess.run(words, cwd=self.folder, env=environment, stdin=subprocess.DEVNULL, capture_output=True, text=True, check=False)
+
+    def contents(self) -> Dict[str, bytes]:
+        """What stands in the folder by the names of drawing, certificate and sums."""
+        return {name: (self.folder / name).read_bytes() for name in ("made.dwg", "made.cert", "made.sha256")}
+
+    def test_an_older_certificate_is_kept_where_none_is_made(self) -> None:
+        page = (TOP / "docs" / "RECIPES.md").read_text()
+        (script,) = [one.command for one in CHECK.examples_of(page) if "certify <" in (one.command or "")]
+        (self.folder / "made.dwg").write_bytes(made.made(1))
+        self.assertEqual(self.run_it(script).returncode, 0)
+        before = self.contents()
+        check_both = "sha256sum --quiet -c made.sha256 && cat made.cert made.dwg | ./dwg accept"
+        self.assertEqual((self.run_it(check_both).stdout, before["made.sha256"].count(b"\n")), ("accept yes\n", 2))
+        for data, status in ((made.flipped(made.made(1), 900), 3), ((made.DATA / "unsound.dwg").read_bytes(), 1)):
+            (self.folder / "made.dwg").write_bytes(data)
+            self.assertEqual((self.run_it(script).returncode, self.contents()), (status, {**before, "made.dwg": data}))
+            self.assertNotEqual(self.run_it(check_both).returncode, 0)
+
+    @unittest.skipUnless(has_parallel(), "what needs GNU parallel, which isn't installed")
+    def test_several_machines(self) -> None:
+        """What one doesn't do another does, and what none does a later run, with what is new; the status says whether all is done."""
+        page = (TOP / "docs" / "dwg-tools.7").read_text().partition("with GNU parallel")[2]
+        lines = page.partition(".Bd -literal -offset indent\n")[2].partition(".Ed\n")[0].replace("\\e", "\\")
+        self.assertEqual([lines.count(word) for word in ("/archive", "-N 200", "one,two")], [1, 1, 1])
+        script = lines.replace("/archive", '"$PWD/d"').replace("-N 200", "-N 2")
+        for name in ("d/deep", "bad", "one", "two", ".parallel"):
+            (self.folder / name).mkdir(parents=True)
+        (self.folder / ".parallel" / "will-cite").touch()
+        for name, data in (("b.dwg", made.made(1)), ("c.DWG", made.made(2)[:-9]), ("deep/it's\n\"d\".dwg", made.made(3)), ("e.dwg", b"")):
+            (self.folder / "d" / name).write_bytes(data)
+        made.program_that(self.folder, "ssh", [
+            'while case $1 in -*) ;; *) false ;; esac do shift; done',
+            'host=$1; shift; [ "$1" != -- ] || shift',
+            'case " $DOWN " in *" $host "*) exit 255 ;; esac',
+            f"cd '{self.folder}'/$host; case \" $BAD \" in *\" $host \"*) PATH='{self.folder}/bad:'$PATH ;; esac",
+            'exec sh -c "$*"',
+        ])  # fmt: skip
+        # (as where Python can't begin)
+        made.program_that(self.folder / "bad", "dwg-check", ["exit 1"])
+        for down, bad, is_done, count in (("one two", "", False, 0), ("", "one two", False, 0), ("one", "", True, 4), ("", "", True, 5)):
+            if count == 5:
+                (self.folder / "d" / "a.dwg").write_bytes(made.made(4))
+            ran = self.run_it(script, DOWN=down, BAD=bad)
+            table = (self.folder / "table.jsonl").read_text().splitlines()
+            self.assertEqual((ran.returncode == 0, len(table), len({*table})), (is_done, count, count), ran.stderr)
 
 
 if __name__ == "__main__":

@@ -1,5 +1,7 @@
 """The launcher `dwg`, with a command `rt` that only looks like the toolchain's, in a copy of what it needs of the tree."""
 
+import contextlib
+import ctypes
 import os
 import pathlib
 import pty
@@ -9,7 +11,7 @@ import subprocess
 import tempfile
 import time
 import unittest
-from typing import Dict, List, Optional, Tuple
+from typing import Dict, Iterator, List, Optional, Tuple
 
 import made
 from made import TOP
@@ -93,6 +95,22 @@ def is_running(pid: int) -> bool:
         return pathlib.Path(f"/proc/{pid}/stat").read_text().rsplit(")", 1)[1].split()[0] != "Z"
     except OSError:
         return False
+
+
+# What prctl calls the process that takes the children of those that have ended.
+SUBREAPER = 36
+
+
+@contextlib.contextmanager
+def no_reaper() -> Iterator[None]:
+    """Has this process take the children of those that have ended, and never ask for their status: as the first process of some containers."""
+    prctl = getattr(ctypes.CDLL(None), "prctl", None)
+    if prctl is None or prctl(SUBREAPER, 1, 0, 0, 0):
+        raise unittest.SkipTest("processes that nobody waits for, as this system has no subreaper")
+    try:
+        yield
+    finally:
+        prctl(SUBREAPER, 0, 0, 0, 0)
 
 
 class InTree(unittest.TestCase):
@@ -271,6 +289,12 @@ class Building(InTree):
                 self.assertEqual(self.interrupted(number, to_group, SLEEP="30").returncode, status)
                 pathlib.Path(f"{self.runs}.child").unlink()
                 self.assertEqual((self.program.exists(), self.leftovers()), (False, []))
+        self.expect_answer(self.run_it("then"), "then")
+
+    def test_interrupted_where_nobody_waits_for_its_children(self) -> None:
+        with no_reaper():
+            self.assertEqual(self.interrupted(signal.SIGTERM, False, SLEEP="30").returncode, 143)
+            os.waitpid(int(pathlib.Path(f"{self.runs}.child").read_text()), 0)
         self.expect_answer(self.run_it("then"), "then")
 
     def test_interrupted_with_a_program_half_written(self) -> None:
@@ -485,6 +509,12 @@ class Unproved(InTree):
             with self.subTest(number):
                 self.assertEqual(self.interrupted(number, to_group, SLEEP="30"), status)
                 self.assertEqual(self.interrupted(number, to_group), status)
+
+    def test_interrupted_where_nobody_waits_for_its_children(self) -> None:
+        for number, status in ((signal.SIGINT, 130), (signal.SIGTERM, 143), (signal.SIGHUP, 129)):
+            with no_reaper():
+                self.assertEqual(self.interrupted(number, False, SLEEP="30"), status)
+                os.waitpid(-1, 0)
 
     def test_other_signals(self) -> None:
         for number, status in ((signal.SIGQUIT, 131), (signal.SIGALRM, 142)):

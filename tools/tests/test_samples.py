@@ -56,6 +56,21 @@ class Samples(unittest.TestCase):
             self.check(folder)
         self.assertEqual(os.listdir(folder / "elsewhere" / "samples"), ["plan.dwg"])
 
+    def test_whole_or_as_it_was(self) -> None:
+        """Where the program fails within its output, or the script is ended by a signal, no sample is half written, and nothing else stays."""
+        made.needs_program()
+        folder = pathlib.Path(tempfile.mkdtemp(prefix="dwg samples "))
+        self.addCleanup(shutil.rmtree, folder)
+        copy(folder)
+        before = {path.name: path.read_bytes() for path in (folder / "samples").iterdir()}
+        for end in ("exit 5", "kill -TERM $PPID; exit 0"):
+            program = made.program_that(folder, "dwg", ['[ "$1" != rewrite ] || { head -c 10; ' + end + "; }", 'exec "$REAL" "$@"'])
+            environment = {**os.environ, "DWG": str(program), "TMPDIR": str(folder)}
+            ran = subprocess.run([str(folder / "samples" / "make")], check=False, capture_output=True, env=environment)
+            self.assertNotEqual(ran.returncode, 0, end)
+            self.assertEqual({path.name: path.read_bytes() for path in (folder / "samples").iterdir()}, before, end)
+        self.assertEqual([path.name for path in folder.iterdir() if path.name.startswith("tmp")], [])
+
 
 if __name__ == "__main__":
     unittest.main()
