@@ -200,16 +200,35 @@ class Member:
             self.worker.end()
 
 
+def see_room() -> None:
+    """Sees that there is room for another process; else OSError."""
+    with uninterrupted():
+        number = os.fork()
+        if not number:
+            os._exit(0)
+        os.waitpid(number, 0)
+
+
 class Checkers:
     """Processes that check files, each one at a time. `end` ends them where nothing runs; where the run ends otherwise, the end of the tool does."""
 
     def __init__(self, count: int, begun: Callable[[], Checker]) -> None:
         self._all: List[Member] = []
         self._free: "queue.SimpleQueue[Member]" = queue.SimpleQueue()
-        # Where there is no room for as many, those that there is room for check, or none.
-        with contextlib.suppress(OSError, ToolError, MemoryError):
+        # Where there is no room for as many, half of those that there is room for check, or none: each of their checks needs room for a process too, and
+        # so does each of the tool's own.
+        try:
             while len(self._all) < min(count, processors()):
                 self._begin(begun)
+            if self._all:
+                see_room()
+        except (OSError, ToolError, MemoryError):
+            for member in self._all[len(self._all) // 2 :]:
+                member.end()
+            self._all = self._all[: len(self._all) // 2]
+            self._free = queue.SimpleQueue()
+            for member in self._all:
+                self._free.put(member)
 
     def _begin(self, begun: Callable[[], Checker]) -> None:
         """Has a process begin, and be a session, before any signal ends the tool."""

@@ -13,7 +13,7 @@ from typing import IO, Any, Callable, Deque, Dict, Iterable, Iterator, List, Opt
 from .certificates import Certificates, refusal_of
 from .escapes import one_line
 from .inputs import bytes_of, is_hollow
-from .log import LED_ELSEWHERE, Contents, Links, Places, content_of, is_away, is_gone, link_of, open_log, read_row, refuse_file, spelled_name
+from .log import LED_ELSEWHERE, Contents, Links, Places, content_of, is_away, is_gone, is_spelling, link_of, open_log, read_row, refuse_file, spelled_name
 from .log_lines import take_lines
 from .program import Program, ProgramFailed
 from .rows import Row, as_object
@@ -81,17 +81,18 @@ class Kept(Contents):
         return self._places.name_of(path)
 
     def led_to(self, path: str) -> Optional[str]:
-        """The name of the file of LOG to which a path led, where that is another than the one to which it leads now."""
+        """The name of the file to which LOG had it that a path led, where that is another than the one to which it leads now."""
         name = self.links.get(spelled_name(path))
-        return None if name is None or name not in self or name == self.name_of(path) else name
+        return None if name is None or self.had(name) is None or name == self.name_of(path) else name
 
     def leads_to_gone(self, path: str, name: str) -> bool:
         """Whether a path leads by a link to a file of LOG that isn't there, which LOG has by another name than the link's."""
         return name in self and link_of(path, name) not in (None, spelled_name(self[name].path)) and is_away(name)
 
-    def had(self, path: str) -> Optional[Row]:
-        """What LOG has of the file to which a path led."""
-        return self.get(self.led_to(path) or self.name_of(path))
+    def of_path(self, path: str) -> Optional[Row]:
+        """What LOG has of the file to which a path led, or had where that was moved."""
+        led_to = self.led_to(path)
+        return self.get(self.name_of(path)) if led_to is None else self.had(led_to)
 
     def named(self, absolute: str) -> Row:
         """What LOG has of a file, by the name that the words had, where that leads there from here, and else by its whole name."""
@@ -135,7 +136,7 @@ class Comparer(Checker):
 
     def compared(self, one: Named) -> Row:
         """The line of a file: whatever happens to it, there is one."""
-        name, kept = self._kept.name_of(one.path), self._kept.had(one.path)
+        name, kept = self._kept.name_of(one.path), self._kept.of_path(one.path)
         found = Row(one.path, "unreadable", one.fault) if one.fault is not None else self.check(one.path)
         if self._kept.name_of(one.path) != name:
             found = Row(one.path, "failed", LED_ELSEWHERE)
@@ -145,7 +146,7 @@ class Comparer(Checker):
         return row
 
     def checked(self, file: IO[bytes], row: Row) -> Row:
-        told, kept = os.fstat(file.fileno()), self._kept.had(row.path)
+        told, kept = os.fstat(file.fileno()), self._kept.of_path(row.path)
         line = Compared(row.path, "new", bytes=told.st_size, mtime_ns=told.st_mtime_ns, kept=kept, is_new=kept is None)
         line.sha256 = None if is_hollow(file, told.st_size) else self.digest(file, told.st_size)
         had = self._missing.verdict_of(line) if kept is None else kept.verdict
@@ -221,8 +222,9 @@ def planned(found: Iterable[Named], kept: Kept) -> Tuple[List[Named], List[Row]]
 
 
 def lost_names(kept: Kept) -> List[Row]:
-    """The lines of names at which nothing is, though LOG has them: of links to files that are there, and of files of which it has no content."""
-    links = (replace(kept[name], path=link) for link, name in kept.links.items() if name in kept and is_away(link) and not is_away(name))
+    """The lines of names at which nothing is, though LOG has them: of links, and of files of which it has no content."""
+    had = ((link, name, kept.had(name)) for link, name in kept.links.items())
+    links = (replace(row, path=link) for link, name, row in had if row and is_away(link) and not (is_spelling(link, name) and is_away(name)))
     files = (kept.named(name) for name in kept.without if is_gone(name))
     return [Compared(row.path, "missing", kept=row) for row in (*links, *files)]
 

@@ -12,15 +12,15 @@ import sys
 import threading
 from dataclasses import replace
 from functools import partial
-from typing import IO, Callable, ContextManager, Iterator, List, Optional, Sequence, Set, Tuple
+from typing import IO, Callable, ContextManager, Dict, Iterator, List, Optional, Sequence, Set, Tuple
 
 from . import verdicts
 from .crew import in_order
 from .escapes import one_line
 from .inputs import from_begin, pieces_of
 from .jobs import most_at_once
-from .log import WHOLE, digest_of_program
-from .outputs import Spot, WholeFile, mask_of_modes
+from .log import LED_ELSEWHERE, WHOLE, digest_of_program
+from .outputs import Spot, WholeFile, is_as_judged, mask_of_modes
 from .pairs import Written, alone_beside, place_alone, place_both
 from .program import Answer, Patience, Program, ProgramFailed, ready_program
 from .recovering import read_back, told_by
@@ -82,29 +82,42 @@ def digest_of(file: IO[bytes]) -> str:
     return found.hexdigest()
 
 
-def digest_at(spot: Spot, source: IO[bytes], sources: Sources) -> Optional[str]:
-    """The SHA-256 of what stands where an output is to stand; None where nothing does, and Refused where that is no regular file, or the input, or
-    another of these that are read."""
+def there_at(spot: Spot) -> Optional[os.stat_result]:
+    """What stands where an output is to stand; None where nothing does, or can."""
     try:
-        there = spot.there(spot.name)
-        if there is None:
-            return None
-        if not stat.S_ISREG(there.st_mode):
-            raise Refused(f"{spot.path} is no regular file")
-        if os.path.samestat(there, os.fstat(source.fileno())):
-            raise Refused(f"{spot.path} is the input itself")
-        if sources.has(there):
-            raise Refused(f"{spot.path} is a file that is read")
-        handle = spot.opened()
-    except (FileNotFoundError, NotADirectoryError):
+        return spot.there(spot.name)
+    except NotADirectoryError:
         return None
     except OSError as fault:
         if fault.errno != errno.ENAMETOOLONG:
             raise
         # (no file has such a name)
         return None
+
+
+def digest_at(spot: Spot, source: IO[bytes], sources: Sources) -> Optional[str]:
+    """The SHA-256 of what stands where an output is to stand; None where nothing does, and Refused where that is no regular file, or the input, or
+    another of these that are read."""
+    there = there_at(spot)
+    if there is None:
+        return None
+    if not stat.S_ISREG(there.st_mode):
+        raise Refused(f"{spot.path} is no regular file")
+    if os.path.samestat(there, os.fstat(source.fileno())):
+        raise Refused(f"{spot.path} is the input itself")
+    if sources.has(there):
+        raise Refused(f"{spot.path} is a file that is read")
+    return digest_of_output(spot)
+
+
+def digest_of_output(spot: Spot) -> Optional[str]:
+    """The SHA-256 of a file; None where it is gone."""
+    try:
+        handle = spot.opened()
+    except (FileNotFoundError, NotADirectoryError):
+        return None
     with os.fdopen(handle, "rb", buffering=0) as file:
-        return digest_of(file) if there.st_size <= MOST_WRITTEN else NO_DIGEST
+        return digest_of(file) if os.fstat(handle).st_size <= MOST_WRITTEN else NO_DIGEST
 
 
 # No output has more bytes: a drawing has LIMIT, and notes have a line for each entry of a map, which has two bytes. What is larger isn't read to its end.
@@ -171,9 +184,14 @@ class Growing(Checker):
         self.grower, self.one, self.tree = grower, one, grower.log
         self.out = os.path.join(grower.options.tree, one.name)
         self.notes = self.out + NOTES
+        # The name by which LOG has the file, before that is opened: a link may be led elsewhere meanwhile.
+        self.source = self.tree.name_of(one.path)
 
     def found(self, file: IO[bytes], content: IO[bytes], row: Row) -> Row:
         line = line_of_row(super().found(file, content, row))
+        if self.is_led_elsewhere():
+            raise ProgramFailed(LED_ELSEWHERE)
+        line.source = self.source
         if line.verdict == "damaged":
             self.told(lambda: self.recover(file, content, line), line)
         elif line.verdict in WHOLE and self.grower.options.whole == "copy":
@@ -181,6 +199,10 @@ class Growing(Checker):
         else:
             self.tree.add(line)
         return line
+
+    def is_led_elsewhere(self) -> bool:
+        """Whether the name of the file isn't that of the one that was opened any more: nobody knows which file that was."""
+        return self.tree.name_of(self.one.path) != self.source
 
     def told(self, write: Callable[[], None], line: Line) -> None:
         """Writes below OUT, and has each fault be one of this file alone."""
@@ -209,7 +231,7 @@ class Growing(Checker):
     def stands(self, line: Line, made: Made) -> None:
         """Has LOG keep what stands below OUT, and the line say it. Where somebody else put it there it is no run's own."""
         line.made, spots = made, [Spot(self.out), *([] if made.notes is None else [Spot(self.notes)])]
-        if all(digest is None or self.tree.is_own(name, digest, self.one.path, None) for name, digest in names_of(made)):
+        if all(digest is None or self.tree.is_own(name, digest, self.source, None) for name, digest in names_of(made)):
             self.tree.add(line)
             self.tree.stands(line)
         else:
@@ -294,11 +316,13 @@ class Growing(Checker):
         now = os.fstat(file.fileno())
         if (now.st_size, now.st_mtime_ns) != (line.bytes, line.mtime_ns):
             raise ToolError("it was changed while it was read", Status.READ_FAULT)
+        if self.is_led_elsewhere():
+            raise ToolError(LED_ELSEWHERE, Status.READ_FAULT)
 
     def has_notes_to_remove(self, file: IO[bytes], digest: str) -> bool:
         """Whether notes of an earlier run stand beside a copy that stands, and both are the tool's own."""
         try:
-            is_own = self.grower.options.force or self.tree.is_own(self.one.name, digest, self.one.path, None)
+            is_own = self.grower.options.force or self.tree.is_own(self.one.name, digest, self.source, None)
             return is_own and self.has_own_notes(file, Spot(self.notes))
         except Refused:
             return False
@@ -306,14 +330,24 @@ class Growing(Checker):
     def has_own_notes(self, file: IO[bytes], notes: Spot) -> bool:
         """Whether the notes of an earlier run stand where those of this file would."""
         try:
-            there = self.digest_at(notes, file)
+            there, notes.judged = self.judged(notes, file)
         except Refused:
             return False
         if there is None:
             return False
-        if not self.grower.options.force and not self.tree.is_own(self.one.name + NOTES, there, self.one.path, notes.there(notes.name)):
+        if not self.grower.options.force and not self.tree.is_own(self.one.name + NOTES, there, self.source, notes.judged):
             raise Refused(f"{self.notes} is there already, and isn't what a run left there; --force removes it")
         return True
+
+    def judged(self, spot: Spot, file: IO[bytes]) -> Tuple[Optional[str], Optional[os.stat_result]]:
+        """The SHA-256 of what stands where an output is to stand, and the state in which it had that; ToolError where that changes meanwhile."""
+        before = there_at(spot)
+        digest = self.digest_at(spot, file)
+        state = there_at(spot)
+        is_same = before is state is None or before is not None and state is not None and is_as_judged(before, state)
+        if not is_same or (digest is None) != (state is None):
+            raise ToolError(f"{spot.path} was changed or replaced meanwhile", Exit.EXISTS)
+        return digest, state
 
     def place(self, file: IO[bytes], line: Line, made: Made, files: List[Tuple[WholeFile, str]], place: Callable[[], None]) -> None:
         """Gives outputs of such contents their names, where what is there may be replaced. LOG has them before, so that it knows them again whatever
@@ -323,13 +357,18 @@ class Growing(Checker):
         for whole, _ in reversed(files):
             whole.finish()
         with self.grower.alone(files[0][0]):
+            self.refuse_moved(files[0][0])
             if self.is_there(file, made):
                 self.stands(line, made)
                 return
             self.may_replace(file, line, made, files)
             line.made, stood = made, self.stood(files[0][0])
             self.tree.add(line, stood)
-            if self.tree.fault and any(whole.force for whole, _ in files):
+            does_replace = any(whole.force for whole, _ in files)
+            if does_replace:
+                # (after a power cut too it is to be known)
+                self.tree.sync()
+            if self.tree.fault and does_replace:
                 # (later it would be the output that LOG doesn't know)
                 raise ToolError(f"{self.out} is left as it is, since the log can't be written: {self.tree.fault}", Status.WRITE_FAULT)
             try:
@@ -338,9 +377,16 @@ class Growing(Checker):
                 # (what stood there stands there again, and was touched)
                 self.tree.keep(line, stood)
                 raise
+            self.refuse_moved(files[0][0], ", and the output went with it")
             self.tree.stands(line)
             self.written([whole for whole, _ in files])
             self.say(line, made)
+
+    def refuse_moved(self, whole: WholeFile, more: str = "") -> None:
+        """Refuses a folder that isn't the one of its name any more: what somebody sets aside is written into no further."""
+        refuse_folders(self.grower.options.tree, self.one.name)
+        if not whole.is_in_place():
+            raise ToolError(f"{os.path.dirname(self.out)} was moved or replaced meanwhile{more}", Exit.EXISTS)
 
     def is_there(self, file: IO[bytes], made: Made) -> bool:
         """Whether a recovered drawing and its notes stand as they would be written, whoever put them there."""
@@ -359,7 +405,8 @@ class Growing(Checker):
         """Has outputs replace what is there, where that is of an earlier run and as it left it; else Refused, unless forced. What is whole, and perhaps
         the last that is, never gives way to what was recovered."""
         for whole, digest in files:
-            there, state = self.digest_at(whole, file), whole.there(whole.name)
+            there, state = self.judged(whole, file)
+            whole.force, whole.judged = False, None
             if there is None or state is None:
                 continue
             # (of two links to one file the other one stays)
@@ -368,7 +415,7 @@ class Growing(Checker):
             name = self.one.name if whole.path == self.out else self.one.name + NOTES
             if self.one.name in self.grower.named_alike and not is_spelled_so(self.grower.options.tree, name):
                 raise Refused(f"{whole.path} is there by another name")
-            if not self.tree.is_own(name, there, self.one.path, state) and not self.grower.options.force:
+            if not self.tree.is_own(name, there, self.source, state) and not self.grower.options.force:
                 raise Refused(f"{whole.path} is there already, and isn't what a run left there; --force replaces it")
             if there != digest and self.tree.is_of(name, there, line.sha256) and not self.grower.options.force:
                 raise Refused(f"{whole.path} is of the same content, by another program; --force replaces it")
@@ -376,7 +423,7 @@ class Growing(Checker):
                 raise Refused(f"{whole.path} is whole, and what is recovered isn't; --force replaces it")
             if os.path.samestat(state, self.tree.place):
                 raise Refused(f"{whole.path} is the log")
-            whole.force = True
+            whole.force, whole.judged = True, state
 
     def place_pair(self, whole: WholeFile, notes: WholeFile) -> None:
         """Gives a drawing and its notes their names; a fault tells what is left behind."""
@@ -437,6 +484,39 @@ def grow_all(plan: List[Planned], grower: Grower, progress: Progress, options: a
     return table
 
 
+def is_left(name: str, written: Dict[str, List[str]], log: TreeLog, options: argparse.Namespace) -> bool:
+    """Whether a run's own output stands at a name below OUT, and nothing that somebody put there; of what can't be read nobody knows."""
+    spot = Spot(os.path.join(options.tree, name))
+    try:
+        there = there_at(spot)
+        digest = digest_of_output(spot) if there is not None and stat.S_ISREG(there.st_mode) else None
+        return digest is not None and any(log.is_own(name, digest, source, there) for source in written[name])
+    except OSError:
+        return True
+
+
+def tell_left(plan: List[Planned], log: TreeLog, options: argparse.Namespace) -> None:
+    """Tells of the outputs that stand whose files aren't there any more."""
+    written = log.written()
+    left = [os.path.join(options.tree, name) for name in left_behind(plan, written, options) if is_left(name, written, log, options)]
+    if left:
+        what = f"{len(left)} outputs stand whose files aren't" if len(left) > 1 else "an output stands whose file isn't"
+        tell(f"{what} there any more{', the first is' if len(left) > 1 else ':'} {one_line(left[0])}")
+
+
+def recover_nothing(log_name: str, made_by: str, told: Callable[[str], None], options: argparse.Namespace) -> int:
+    """Tells that nothing is found to recover, and what stands that was recovered before."""
+    told(nothing_found(walk_of(options), "recover"))
+    if os.path.lexists(log_name):
+        log = TreeLog(log_name, told, 0o666)
+        try:
+            log.begin(made_by)
+        finally:
+            log.close()
+        tell_left([], log, options)
+    return Exit.NOTHING_FOUND
+
+
 def recover_tree(options: argparse.Namespace) -> int:
     """Recovers what the words name into a tree."""
     progress = Progress(shown=not options.quiet and sys.stderr.isatty())
@@ -448,27 +528,25 @@ def recover_tree(options: argparse.Namespace) -> int:
     plan = planned(options)
     # A program that isn't there leaves no OUT.
     program = ready_program(options.program)
-    made_by = digest_of_program(program.path)
+    made_by, log_name = digest_of_program(program.path), os.path.join(options.tree, LOG_NAME)
     if not plan:
-        tell(nothing_found(walk_of(options), "recover"))
-        return Exit.NOTHING_FOUND
+        return recover_nothing(log_name, made_by, told, options)
     sources, most = Sources(plan), most_open(options.files)
     refuse_read(status_of(options.tree), options.tree, sources)
     try:
         os.makedirs(options.tree, most, exist_ok=True)
     except OSError as fault:
         raise ToolError(f"{one_line(options.tree)}: {fault.strerror}", Status.WRITE_FAULT) from None
-    log = TreeLog(os.path.join(options.tree, LOG_NAME), told, most & 0o666)
+    log = TreeLog(log_name, told, most & 0o666)
+    if sources.has(log.place):
+        raise ToolError(f"{log.name} is a file that is read", Exit.EXISTS)
     try:
         log.begin(made_by)
         progress.begin(Files(plan))
         table = grow_all(plan, Grower(program, log, sources, alike(plan), options), progress, options)
     finally:
         log.close()
-    left = list(left_behind(plan, log.written(), options))
-    if left:
-        what = f"{len(left)} outputs stand whose files aren't" if len(left) > 1 else "an output stands whose file isn't"
-        tell(f"{what} there any more{', the first is' if len(left) > 1 else ':'} {one_line(left[0])}")
+    tell_left(plan, log, options)
     if not options.quiet:
         said = ", ".join(f"{count} {outcome}" for outcome, count in sorted(table.counts.items(), key=lambda item: -item[1]))
         tell(f"{len(plan)} files: {said}")

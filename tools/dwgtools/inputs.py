@@ -11,6 +11,7 @@ import tempfile
 from dataclasses import dataclass
 from typing import IO, Iterator, Optional, Tuple
 
+from .outputs import take_read
 from .statuses import Exit, Status, ToolError
 from .streams import Patient, input_name, is_standard
 from .temporary import TemporaryFault, of_temporary, temporary_told
@@ -24,6 +25,7 @@ def opened(path: Optional[str]) -> Iterator[IO[bytes]]:
         with temporary_told(), io.BufferedReader(Patient(0, closefd=False) if path is None or is_standard(path) else Patient(path)) as file:
             if file.isatty():
                 raise ToolError(f"{input_name(path)} is a terminal, and no drawing comes from there; name a file", Exit.USAGE)
+            take_read(os.fstat(file.fileno()))
             before = state_of(file)
             yield file
             refuse_changed(file, before, input_name(path))
@@ -64,6 +66,7 @@ def open_input(path: Optional[str]) -> Input:
 def input_of(file: IO[bytes], begin: bytes = b"") -> Input:
     """An open input, of which the begin is read."""
     told, state = os.fstat(file.fileno()), state_of(file)
+    take_read(told)
     mode = stat.S_IMODE(told.st_mode) if stat.S_ISREG(told.st_mode) else None
     found = kept(file, begin)
     if is_named_file(file):

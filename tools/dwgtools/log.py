@@ -83,12 +83,12 @@ class Links(Dict[str, str]):
     """Names that lead to files by links, each with the name by which LOG had the file when it took it last."""
 
     def take(self, told: Dict[str, Any]) -> None:
-        """Takes a line of LOG. What is a file by its own name is none beyond a link any more. (Of what couldn't be read nobody knows.)"""
-        if told["verdict"] == "unreadable" and told.get("forgotten") is not True:
+        """Takes a line of LOG. What is a file by its own name is none beyond a link any more. (Of what couldn't be read nobody knows, and of what became
+        another by itself nobody compares it with what the link led to before.)"""
+        if told["verdict"] in ("unreadable", "changed") and told.get("forgotten") is not True:
             return
-        if told.get("link") is None:
-            self.pop(told["absolute"], None)
-        else:
+        self.pop(told["absolute"], None)
+        if told.get("link") is not None:
             self[told["link"]] = told["absolute"]
 
 
@@ -110,6 +110,22 @@ def is_away(path: str) -> bool:
         return not stat.S_ISREG(os.stat(path).st_mode)
     except (OSError, ValueError):
         return is_gone(path)
+
+
+def is_spelling(link: str, name: str) -> bool:
+    """Whether a name that leads to a file by a link is another spelling of its name: by a folder that leads there."""
+    return os.path.join(absolute_name(os.path.dirname(link)), os.path.basename(link)) == name
+
+
+def nearest_folder(path: str) -> Optional[str]:
+    """The folder that is there in which a file that is gone stood, or the nearest one that it stood in; None where a link is left that leads to none, as
+    to a volume that isn't mounted."""
+    folder = os.path.dirname(path)
+    while not os.path.isdir(folder):
+        if os.path.islink(folder) or folder == os.path.dirname(folder):
+            return None
+        folder = os.path.dirname(folder)
+    return folder
 
 
 class Places:
@@ -151,6 +167,8 @@ class Contents(Dict[str, Row]):
     def __init__(self) -> None:
         super().__init__()
         self.without: Dict[str, Row] = {}
+        # What it had of those that it was told to forget.
+        self.forgotten: Dict[str, Row] = {}
 
     def take(self, absolute: str, row: Row) -> None:
         """Takes a line of LOG."""
@@ -162,13 +180,18 @@ class Contents(Dict[str, Row]):
         elif absolute not in self and row.detail not in NOTHING_THERE:
             self.without[absolute] = row
 
+    def had(self, absolute: str) -> Optional[Row]:
+        """What it has of the content of a file, or had of one that was moved or forgotten."""
+        return self.get(absolute) or self.forgotten.get(absolute)
+
     def has(self, absolute: str) -> bool:
         """Whether it has anything of a file."""
         return absolute in self or absolute in self.without
 
     def forget(self, absolute: str) -> None:
         """Has nothing of a file any more."""
-        self.pop(absolute, None)
+        if absolute in self:
+            self.forgotten[absolute] = self.pop(absolute)
         self.without.pop(absolute, None)
 
 
@@ -330,8 +353,8 @@ class Log:
         self._names: Set[str] = set()
         self._places = Places(self._names)
         self._new: Dict[str, Row] = {}
-        self._missed: List[str] = []
-        self._missed_folders: List[str] = []
+        self._missed: Set[str] = set()
+        self._named: Set[str] = set()
         # Files of LOG that have another content than it had, and not by themselves.
         self.others: Set[str] = set()
         # Their lines, by the names of the files, which LOG gets once that is told.
@@ -443,12 +466,13 @@ class Log:
             self._latest[name] = key
 
     def _sees_other(self, name: str, row: Row) -> bool:
-        """Whether a file has another content than LOG had last by its name, and not by itself, which is noted; also a link that led to another file."""
-        link = spelled_name(row.path) if self._links else name
-        led_to = self._links.get(link, name)
-        is_read = row.sha256 is not None or row.verdict not in ("unreadable", "failed")
-        had = {name: name, **({} if led_to == name else {link: led_to})}
-        others = {one for one, of in had.items() if is_read and of in self._before and content_of(row) != content_of(self._before[of])}
+        """Whether a file has another content than LOG had last by its name, and not by itself, which is noted; also a link that led to another file, or
+        stood where the file stands now."""
+        if row.sha256 is None and row.verdict in ("unreadable", "failed"):
+            return False
+        had = [(name, self._before.get(name))]
+        had += [(link, self._before.had(self._links[link])) for link in {spelled_name(row.path), name} if link in self._links] if self._links else []
+        others = {one for one, kept in had if kept is not None and content_of(row) != content_of(kept)}
         self.others |= others
         return bool(others)
 
@@ -472,34 +496,41 @@ class Log:
                 found.append(name)
         return found
 
-    def gone(self, words: Iterable[str], is_sure: bool = False) -> List[str]:
-        """The whole names of files that aren't there any more, and of links to files that are, which the words named or which stand below these, in
-        their order; and of files that aren't there any more to which such links led. Where it `is_sure`, only what stands below the given words or was
-        named itself."""
-        missed = self._missed if is_sure else [*self._missed, *self._missed_folders]
-        tops = {name for word in filter(None, words) for name in (absolute_name(word), spelled_name(word))} | {*missed}
+    def gone(self, words: Iterable[str]) -> List[str]:
+        """The whole names of files that aren't there any more, and of links that aren't, which the words named or which stand below these, in their order;
+        and of files that aren't there any more to which such links led."""
+        tops = {name for word in filter(None, words) for name in (absolute_name(word), spelled_name(word))} | self._missed
         names = {*self._before, *self._before.without, *self._links}
         # (many files stand in one folder)
         folders = {folder for folder in {os.path.dirname(name) for name in names} if is_among(folder, tops) or is_among(absolute_name(folder), tops)}
         found = {name for name in names if (name in tops or os.path.dirname(name) in folders) and self._is_away(name)}
-        files = {self._links.get(name, name) for name in found}
-        return sorted({name for name in files if self._is_away(name)} | {name for name in found if not self._is_away(self._links.get(name, name))})
+        files = {self._links[name] for name in found if name in self._links}
+        return sorted({name for name in found if not self._is_spelling_of_one(name)} | {name for name in files if self._before.has(name) and self._is_away(name)})
+
+    def _is_spelling_of_one(self, link: str) -> bool:
+        """Whether a name that is gone stands for a file that is gone too, by another spelling."""
+        name = self._links.get(link)
+        return name is not None and name in self._before and is_spelling(link, name)
+
+    def is_named(self, name: str) -> bool:
+        """Whether a file that is gone was named itself."""
+        return name in self._named
 
     def _is_away(self, name: str) -> bool:
         """Whether what LOG has by a name isn't there any more; of what could never be read, as a folder, whether anything is."""
         return is_gone(name) if name in self._before.without else is_away(name)
 
     def forget(self, names: Iterable[str]) -> None:
-        """Has LOG have files no more, nor links that led to them."""
+        """Has LOG have files and links no more, nor other spellings of them."""
         all_names = {*names}
-        links = {link for link, name in self._links.items() if name in all_names and is_gone(link)}
+        links = {link for link, name in self._links.items() if name in all_names and is_gone(link) and is_spelling(link, name)}
         for name in sorted(all_names | links):
             self._before.forget(name)
             self.add_line(name, Forgotten(name, "unreadable", GONE))
 
-    def kept(self, row: Row, before: Optional[str] = None) -> Row:
+    def kept(self, row: Row, before: Optional[str] = None, is_named: bool = True) -> Row:
         """The line of a file that was looked at, kept in LOG: `changed` where its first content of this size and time was another. Of one whose name
-        before that was another nobody knows which file it is of."""
+        before that was another nobody knows which file it is of. One that isn't named a folder has, as a link to nothing."""
         if row.verdict == "failed" and not row.lasting:
             return row
         absolute = self._places.name_of(row.path)
@@ -508,22 +539,22 @@ class Log:
         if row.verdict == "unreadable" and row.detail in (GONE, NO_FOLDER) and row.path:
             if self._before.has(absolute) or absolute in self._links:
                 # (LOG forgets nothing by itself)
-                self._missed.append(absolute)
+                self._missed.add(absolute)
+                if is_named:
+                    self._named.add(absolute)
                 return row
             # (it may have been a folder, and what a link led to is none of the words)
             if is_gone(row.path):
-                self._missed_folders.append(spelled_name(row.path))
+                self._missed.add(spelled_name(row.path))
         key = (absolute, row.bytes or 0, row.mtime_ns or 0)
-        old = self._known.get(key)
-        first = self._first.get(key, "" if old and old.verdict == "changed" else row.sha256)
-        is_other = False
-        # (of a file that has only holes now there is no SHA-256)
-        if old and (row.sha256 or key in self._first) and row.sha256 != first:
-            row = replace(row, verdict="changed", detail=f"{row.verdict}: {row.detail}" if row.detail else row.verdict)
+        old, is_other = self._known.get(key), False
+        changed = self.as_changed(key, row)
+        if changed is not None:
+            row = changed
         else:
             is_other = self._sees_other(absolute, row)
         is_there = key in self._current and old is not None and old.sha256 == row.sha256 and absolute not in self._unreadable
-        is_there = is_there and self._latest[absolute] == key and self._has_link(row.path, absolute)
+        is_there = is_there and self._latest[absolute] == key and (row.verdict == "changed" or self._has_link(row.path, absolute))
         if is_other:
             self._withheld.append((absolute, row))
             is_there = True
@@ -535,6 +566,15 @@ class Log:
         if is_there and absolute not in self._before:
             self._new[absolute] = row
         return row
+
+    def as_changed(self, key: Key, row: Row) -> Optional[Row]:
+        """The line of a file as `changed`, where its first content of this size and time was another."""
+        old = self._known.get(key)
+        first = self._first.get(key, "" if old and old.verdict == "changed" else row.sha256)
+        # (of a file that has only holes now there is no SHA-256)
+        if not old or not (row.sha256 or key in self._first) or row.sha256 == first:
+            return None
+        return replace(row, verdict="changed", detail=f"{row.verdict}: {row.detail}" if row.detail else row.verdict)
 
     def add_line(self, absolute: str, row: Row) -> bool:
         """Adds a line; where that fails it is told at once, and nothing more is added. Whether LOG has it."""

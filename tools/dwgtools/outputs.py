@@ -10,7 +10,7 @@ import secrets
 import select
 import stat
 import sys
-from typing import IO, Dict, Iterator, Optional, Sequence, Tuple
+from typing import IO, Dict, Iterator, Optional, Sequence, Set, Tuple
 
 from .escapes import one_line
 from .signals import uninterrupted
@@ -22,8 +22,16 @@ from .streams import is_one_file, is_standard, output_name, refuse_streams, stat
 _unplaced: Dict[Tuple[int, str], str] = {}
 
 
-# How many names are tried for a file that is begun: each has eight bytes by chance.
+# How many names are tried for a file that is begun: each has eight bytes by chance. And how often a name is looked at that others give and take.
 TRIES = 9
+
+# The files that are read, by what they are, wherever they are moved meanwhile: none is replaced.
+_read: Set[Tuple[int, int]] = set()
+
+
+def take_read(told: os.stat_result) -> None:
+    """Takes note of a file that is read."""
+    _read.add((told.st_dev, told.st_ino))
 
 
 def remove_unplaced() -> None:
@@ -48,11 +56,13 @@ def tell_left(path: str, fault: OSError) -> None:
 class Spot:
     """A name in a folder that is open, at `at`, wherever that is moved; where `at` is None, by its whole name.
 
-    With `force` the regular file that has the name may be replaced, and nothing else.
+    With `force` the regular file that has the name may be replaced, and nothing else; with `judged`, what was found fit to be replaced, that alone, and
+    as it was then.
     """
 
     def __init__(self, path: str, force: bool = False, at: Optional[int] = None) -> None:
         self.path, self.force, self.at = path, force, at
+        self.judged: Optional[os.stat_result] = None
         self.name = path if at is None else os.path.basename(path)
 
     def spot(self, name: str) -> "Spot":
@@ -84,6 +94,11 @@ class Spot:
     def rename(self, old: str, new: str) -> None:
         """Gives what has a name of the folder another one, which it takes from what has that."""
         os.replace(old, new, src_dir_fd=self.at, dst_dir_fd=self.at)
+
+    def renamed(self, old: str, new: str, how: int) -> bool:
+        """Whether what has a name of the folder has another one now, in such a way; False where the system has no such way. FileExistsError where that
+        name is taken, FileNotFoundError where there is none to exchange it with."""
+        return renamed(AT_CURRENT if self.at is None else self.at, old, new, how)
 
     def link(self, old: str, new: str) -> None:
         """Gives what has a name of the folder another one too, that nothing has."""
@@ -126,6 +141,48 @@ class Spot:
             raise FileExistsError(errno.EEXIST, "File exists", self.path)
         return there
 
+    def refuse_other(self, there: Optional[os.stat_result]) -> None:
+        """Refuses to replace what is no regular file, is read, or isn't as it was judged."""
+        if there is None:
+            raise FileNotFoundError(errno.ENOENT, "No such file or directory", self.path)
+        if not stat.S_ISREG(there.st_mode):
+            raise FileExistsError(errno.EEXIST, "File exists", self.path)
+        if (there.st_dev, there.st_ino) in _read:
+            raise ToolError(f"{one_line(self.path)} is the input itself; name another output", Exit.EXISTS)
+        if self.judged is not None and not is_as_judged(there, self.judged):
+            raise ToolError(f"{one_line(self.path)} was changed or replaced meanwhile", Exit.EXISTS)
+
+    def moved_aside(self) -> Optional[str]:
+        """Takes its name from the file that is to be replaced, and gives the one that it has then; None where there is none. What may not be replaced has
+        its name again."""
+        if self.replaced() is None:
+            return None
+        aside = self.spare_name()
+        self.rename(self.name, aside)
+        try:
+            self.refuse_other(self.there(aside))
+        except BaseException:
+            if not self.regained(aside):
+                self.tell_aside(aside)
+            raise
+        self.sync_folder()
+        return aside
+
+    def tell_aside(self, aside: str) -> None:
+        """Tells that what somebody else gave the file's name has another one, where it has that."""
+        if self.has(aside):
+            tell(f"{one_line(self.beside(aside))} is what was {one_line(self.path)} for a while, and stays")
+
+    def regained(self, aside: str) -> bool:
+        """Whether what was moved aside has its name again, which nothing has had since."""
+        with contextlib.suppress(OSError):
+            if self.renamed(aside, self.name, RENAME_NOREPLACE):
+                return True
+            if not self.has(self.name):
+                self.rename(aside, self.name)
+                return True
+        return False
+
 
 class WholeFile(Spot):
     """A file that takes its name when `place` is called, and leaves nothing after where that is never called.
@@ -139,12 +196,15 @@ class WholeFile(Spot):
     file: IO[bytes]
     new: int = 0o666
     times: Optional[Tuple[int, int]] = None
+    # Whether it has its name, and replaced nothing.
+    is_new: bool = False
 
     def __init__(self, path: str, force: bool = False, folder: Optional[int] = None, most: int = 0o777) -> None:
         super().__init__(path, force)
         self.most = most
         self.name = os.path.basename(path)
         self._given, self._folder, self._temporary = folder, -1, ""
+        self._own: Optional[os.stat_result] = None
 
     def __enter__(self) -> "WholeFile":
         try:
@@ -166,7 +226,7 @@ class WholeFile(Spot):
             name = self.spare_name()
             with contextlib.suppress(FileExistsError):
                 handle = os.open(name, os.O_RDWR | os.O_CREAT | os.O_EXCL, 0o600, dir_fd=self.at)
-                self._temporary = name
+                self._temporary, self._own = name, os.fstat(handle)
                 _unplaced[self._folder, name] = self.beside(name)
                 return handle
         raise OSError(errno.EBUSY, "no name is free for a temporary file", self.path)
@@ -187,12 +247,88 @@ class WholeFile(Spot):
 
     def place(self) -> None:
         """Gives the file its name."""
-        if self.force:
-            self.replaced()
-            self.rename(self._temporary, self.name)
-        else:
-            self._link()
+        with uninterrupted():
+            aside = self.placed()
+            if aside is not None:
+                self.remove(aside)
+
+    def placed(self) -> Optional[str]:
+        """Gives the file its name; and the name beside it that what it replaced has then, None where it replaced nothing, or no other name is to be
+        had."""
+        aside = None
+        for left in reversed(range(TRIES)):
+            try:
+                self.is_new = self.replaced() is None
+                if self.is_new:
+                    self._link()
+                else:
+                    aside = self._exchange()
+                break
+            except (FileExistsError, FileNotFoundError):
+                # (with `force` another may have come or gone meanwhile)
+                if not self.force or not left or not self._is_regular() or not self.is_own(self.there(self._temporary)):
+                    raise
         self.sync_folder()
+        return aside
+
+    def _is_regular(self) -> bool:
+        """Whether nothing has the name, or a regular file."""
+        there = self.there(self.name)
+        return there is None or stat.S_ISREG(there.st_mode)
+
+    def _exchange(self) -> Optional[str]:
+        """Takes its name from the file that has it, and gives that another one. What may not be replaced has its name again. Where the system can't
+        exchange names, that file gets a link, and between a look at it and the taking lies no other step."""
+        with uninterrupted():
+            if self.renamed(self._temporary, self.name, RENAME_EXCHANGE):
+                aside: Optional[str] = self._temporary
+                try:
+                    self.refuse_other(self.there(self._temporary))
+                except BaseException:
+                    self.is_exchanged_back(self._temporary)
+                    raise
+            else:
+                aside = self._renamed_over()
+            _unplaced.pop((self._folder, self._temporary), None)
+            self._temporary = ""
+            return aside
+
+    def _renamed_over(self) -> Optional[str]:
+        """Takes its name from the file that has it by a rename, and gives that another one before; None where the file system has no links."""
+        aside = self._linked_aside()
+        try:
+            self.refuse_other(self.there(self.name))
+            self.rename(self._temporary, self.name)
+        except BaseException:
+            if aside is not None:
+                self.remove(aside)
+            raise
+        return aside
+
+    def is_exchanged_back(self, old: str) -> bool:
+        """Whether what was replaced has its name again, and this file the other one; what somebody else gave the name meanwhile keeps it."""
+        try:
+            if not self.renamed(old, self.name, RENAME_EXCHANGE):
+                return False
+        except FileNotFoundError:
+            # (somebody took this file away)
+            return self.regained(old)
+        if self.is_own(self.there(old)):
+            return True
+        self.renamed(old, self.name, RENAME_EXCHANGE)
+        return False
+
+    def _linked_aside(self) -> Optional[str]:
+        """Gives what has the name another one too; None where the file system has no links."""
+        aside = self.spare_name()
+        with contextlib.suppress(OSError):
+            self.link(self.name, aside)
+            return aside
+        return None
+
+    def is_own(self, there: Optional[os.stat_result]) -> bool:
+        """Whether that is this file."""
+        return there is not None and self._own is not None and os.path.samestat(there, self._own)
 
     def _link(self) -> None:
         """Gives the file its name where no other has it: by a link or a rename that never replaces, or else by one over a name that is taken first."""
@@ -205,26 +341,45 @@ class WholeFile(Spot):
                 if self._renamed():
                     return
                 # (who is killed between these two leaves an empty file)
-                self._take_name()
+                empty = self._take_name()
                 try:
                     self.rename(self._temporary, self.name)
                 except OSError:
-                    self.unlink(self.name)
+                    there = self.there(self.name)
+                    if there is not None and os.path.samestat(there, empty):
+                        self.remove(self.name)
                     raise
 
     def _renamed(self) -> bool:
         """Whether the file has its name by a rename, where no other has that. Not all systems and file systems have such a one."""
         try:
-            return renamed_to_new(self._folder, self._temporary, self.name)
+            return self.renamed(self._temporary, self.name, RENAME_NOREPLACE)
         except FileExistsError:
             raise FileExistsError(errno.EEXIST, "File exists", self.path) from None
 
-    def _take_name(self) -> None:
+    def _take_name(self) -> os.stat_result:
         """Has an empty file take the name where nothing has it."""
         try:
-            os.close(os.open(self.name, os.O_WRONLY | os.O_CREAT | os.O_EXCL, dir_fd=self.at))
+            handle = os.open(self.name, os.O_WRONLY | os.O_CREAT | os.O_EXCL, dir_fd=self.at)
         except FileExistsError:
             raise FileExistsError(errno.EEXIST, "File exists", self.path) from None
+        try:
+            return os.fstat(handle)
+        finally:
+            os.close(handle)
+
+    def _remove_temporary(self) -> None:
+        """Removes the file by the name that it was begun by; what somebody else gave that name stays, and is told."""
+        if self.has(self._temporary) and not self.is_own(self.there(self._temporary)):
+            self.tell_aside(self._temporary)
+        else:
+            self.remove(self._temporary)
+
+    def is_in_place(self) -> bool:
+        """Whether its folder is the one of its name still, which somebody may have moved or replaced."""
+        with contextlib.suppress(OSError):
+            return os.path.samestat(os.stat(os.path.dirname(self.path) or os.curdir), os.fstat(self._folder))
+        return False
 
     def __exit__(self, *_: object) -> None:
         with uninterrupted():
@@ -232,31 +387,38 @@ class WholeFile(Spot):
             with contextlib.suppress(OSError, AttributeError):
                 self.file.close()
             if self._temporary:
-                self.remove(self._temporary)
+                self._remove_temporary()
                 _unplaced.pop((self._folder, self._temporary), None)
             if self._folder >= 0:
                 os.close(self._folder)
                 self.at = self._folder = -1
 
 
-# By which `renameat2` of Linux replaces nothing.
-RENAME_NOREPLACE = 1
+# By which `renameat2` of Linux replaces nothing, and by which two files exchange their names.
+RENAME_NOREPLACE, RENAME_EXCHANGE = 1, 2
+# What stands for the folder that a process is in.
+AT_CURRENT = -100
 
 
-def renamed_to_new(folder: int, old: str, new: str) -> bool:
-    """Whether a file of a folder has another name now, by a call that replaces nothing; FileExistsError where that name is taken."""
+def renamed(folder: int, old: str, new: str, how: int) -> bool:
+    """What `Spot.renamed` tells of names of an open folder."""
     try:
         # (few outputs need this, and each tool would begin later)
         import ctypes  # pylint: disable=import-outside-toplevel
 
-        if ctypes.CDLL(None, use_errno=True).renameat2(folder, os.fsencode(old), folder, os.fsencode(new), RENAME_NOREPLACE) == 0:
+        if ctypes.CDLL(None, use_errno=True).renameat2(folder, os.fsencode(old), folder, os.fsencode(new), how) == 0:
             return True
         fault = ctypes.get_errno()
     except (ImportError, AttributeError, OSError):
         return False
-    if fault == errno.EEXIST:
-        raise FileExistsError(fault, os.strerror(fault))
+    if fault in (errno.EEXIST, errno.ENOENT):
+        raise OSError(fault, os.strerror(fault), new)
     return False
+
+
+def is_as_judged(there: os.stat_result, judged: os.stat_result) -> bool:
+    """Whether a file is the one that was looked at, and wasn't written since."""
+    return os.path.samestat(there, judged) and (there.st_size, there.st_mtime_ns) == (judged.st_size, judged.st_mtime_ns)
 
 
 @functools.lru_cache(maxsize=None)

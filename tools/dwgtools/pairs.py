@@ -102,20 +102,18 @@ def place_both(whole: WholeFile, notes: WholeFile, written: Written) -> None:
     """Gives the output its name, and then its notes theirs, or neither where that fails. Notes that were there are away before, so that at no
     moment the output of one run stands beside the notes of another."""
     with uninterrupted():
-        is_new, old, old_notes = not whole.has(whole.name), None, moved_aside(notes)
+        old, old_notes = None, notes.moved_aside()
         try:
-            old = linked_aside(whole)
-            whole.place()
+            old = whole.placed()
             written.stands = True
             notes.place()
         except BaseException:
-            if written.stands and not is_taken_back(whole, old, is_new):
-                # (old notes never stand beside a new output)
-                written.has_notes = False
+            if written.stands and not is_taken_back(whole, old):
+                # (old notes never stand beside a new output, and what somebody else put there meanwhile stays)
+                written.stands, written.has_notes = whole.is_own(whole.there(whole.name)), False
                 written.left = [*left_aside(whole, old), *left_aside(notes, old_notes)]
             else:
                 written.stands = False
-                dropped(whole, old)
                 written.left = [] if is_put_back(notes, old_notes) else left_aside(notes, old_notes)
             raise
         dropped(whole, old)
@@ -125,7 +123,7 @@ def place_both(whole: WholeFile, notes: WholeFile, written: Written) -> None:
 def place_alone(whole: WholeFile, notes: Spot, written: Written) -> None:
     """Gives an output its name, and takes away before the notes that may be replaced; where that fails, what was there is as it was."""
     with uninterrupted():
-        old_notes = moved_aside(notes)
+        old_notes = notes.moved_aside()
         try:
             whole.place()
         except BaseException:
@@ -134,25 +132,46 @@ def place_alone(whole: WholeFile, notes: Spot, written: Written) -> None:
         dropped(notes, old_notes)
 
 
-def is_taken_back(file: Spot, old: Optional[str], is_new: bool) -> bool:
-    """Whether a new output has its name no more: the old one has it again, or nothing. Where the file system has no links it keeps it."""
+def is_taken_back(file: WholeFile, old: Optional[str]) -> bool:
+    """Whether a new output has its name no more: the old one has it again, or nothing. Where neither can be, as where the file system has no links, it
+    keeps it; and so does what somebody else gave the name meanwhile."""
     with contextlib.suppress(OSError):
         if old is not None:
-            file.rename(old, file.name)
-            return True
-        if is_new:
-            file.unlink(file.name)
-            return True
+            return is_given_back(file, old)
+        return file.is_new and is_withdrawn(file)
+    return False
+
+
+def is_given_back(file: WholeFile, old: str) -> bool:
+    """Whether what was replaced has its name again, and the new output is removed."""
+    if file.is_exchanged_back(old):
+        if file.is_own(file.there(old)):
+            file.remove(old)
+        return True
+    # (where names can't be exchanged a rename takes the name)
+    if not file.has(old) or not file.is_own(file.there(file.name)):
+        return False
+    file.rename(old, file.name)
+    return True
+
+
+def is_withdrawn(file: WholeFile) -> bool:
+    """Whether a new output that replaced nothing is removed."""
+    aside = file.spare_name()
+    if not file.is_own(file.there(file.name)):
+        return False
+    file.rename(file.name, aside)
+    if file.is_own(file.there(aside)):
+        file.remove(aside)
+        return True
+    if not file.regained(aside):
+        file.tell_aside(aside)
     return False
 
 
 def is_put_back(file: Spot, aside: Optional[str]) -> bool:
     """Whether what was moved aside has its name again, where anything was."""
-    with contextlib.suppress(OSError):
-        if aside is not None and not file.has(file.name):
-            file.rename(aside, file.name)
-            return True
-    return aside is None
+    return aside is None or file.regained(aside)
 
 
 def left_aside(file: Spot, aside: Optional[str]) -> List[str]:
@@ -160,26 +179,6 @@ def left_aside(file: Spot, aside: Optional[str]) -> List[str]:
     if aside is None:
         return []
     return [f"what was {one_line(file.path)} before is {f'in {one_line(file.beside(aside))}' if file.has(aside) else 'gone'}"]
-
-
-def moved_aside(file: Spot) -> Optional[str]:
-    """Takes the file away that is to be replaced, and gives the name that it has then; None where there is none."""
-    if file.replaced() is None:
-        return None
-    aside = file.spare_name()
-    file.rename(file.name, aside)
-    file.sync_folder()
-    return aside
-
-
-def linked_aside(file: Spot) -> Optional[str]:
-    """Gives the file that is to be replaced another name too; None where there is none, or the file system has no links."""
-    aside = file.spare_name()
-    with contextlib.suppress(OSError):
-        if file.replaced() is not None:
-            file.link(file.name, aside)
-            return aside
-    return None
 
 
 def dropped(file: Spot, aside: Optional[str]) -> None:

@@ -6,6 +6,7 @@ import contextlib
 import os
 import signal
 import subprocess
+import time
 from dataclasses import dataclass
 from typing import Iterable, Iterator, List, Optional, Set, Union
 
@@ -39,11 +40,13 @@ def all_running() -> List[Running]:
 
 @dataclass(frozen=True)
 class Process:
-    """A process: its number, its session, and how many seconds it has computed, with what it began and has seen end."""
+    """A process: its number, its session, how many seconds it has computed, with what it began and has seen end, and whether it has ended and nobody
+    has taken note of that."""
 
     number: int
     session: int
     computed: float
+    has_ended: bool
 
 
 def all_processes() -> Iterator[Process]:
@@ -58,7 +61,7 @@ def _process(number: int) -> Process:
     with open(f"/proc/{number}/stat", "rb") as told:
         # (its second field is a name, which may have anything)
         fields = told.read().rpartition(b")")[2].split()
-    return Process(number, int(fields[3]), sum(map(int, fields[11:15])) / os.sysconf("SC_CLK_TCK"))
+    return Process(number, int(fields[3]), sum(map(int, fields[11:15])) / os.sysconf("SC_CLK_TCK"), fields[0] in (b"Z", b"X"))
 
 
 def send_to_all(runs: Iterable[Running], number: int) -> None:
@@ -78,6 +81,30 @@ def send_to_all(runs: Iterable[Running], number: int) -> None:
 def end_running() -> None:
     """Ends all runs."""
     send_to_all(all_running(), signal.SIGKILL)
+
+
+def has_ended_untaken(number: int) -> bool:
+    """Whether a child has ended, of which no note is taken: until then its number is nobody else's, nor that of its session."""
+    return os.waitid(os.P_PID, number, os.WEXITED | os.WNOHANG | os.WNOWAIT) is not None
+
+
+# How many seconds what a run left behind may take for the last of an answer, as `tee` does, before it is ended; and how many to end.
+MOST_LEFT, MOST_ENDING = 2, 30
+
+
+def end_left(session: int) -> bool:
+    """Waits a while for what is left of a session of whose first process no note is taken, though it has ended, and ends it then; whether nothing is
+    left."""
+    begin = time.monotonic()
+    while True:
+        left = [process.number for process in all_processes() if process.session == session and not process.has_ended]
+        took = time.monotonic() - begin
+        if not left or took > MOST_LEFT + MOST_ENDING:
+            return not left
+        for number in left if took > MOST_LEFT else ():
+            with contextlib.suppress(OSError):
+                os.kill(number, signal.SIGKILL)
+        time.sleep(0.01)
 
 
 def end_own_session() -> None:

@@ -19,7 +19,7 @@ from . import TOP
 from .escapes import one_line
 from .notes import MOST_NOTES, Said, read_note
 from .pipes import LOOK, Pipes, await_end, buffered
-from .processes import computed_alone, computed_by, end_running, is_any_running, running_now, send_to_all
+from .processes import computed_alone, computed_by, end_left, end_running, has_ended_untaken, is_any_running, running_now, send_to_all
 from .signals import await_interrupt, uninterrupted
 from .statuses import Exit, Status, ToolError
 from .streams import hush_where_named
@@ -155,13 +155,14 @@ class Program:
         notes: Optional[IO[bytes]] = None,
     ) -> Answer:
         """Runs the program on words, as long as there is patience. The source is a file, a descriptor, bytes, or nothing; output and notes go to
-        files where these are given, and of such notes the answer has the begin."""
+        files where these are given, and of such notes the answer has the begin. Nothing that it left behind writes into these notes or this output
+        after that."""
         given = source if isinstance(source, bytes) else None
         stdin = subprocess.PIPE if given is not None else subprocess.DEVNULL if source is None else source
         stdout, stderr = (subprocess.PIPE if file is None else file for file in (output, notes))
         with self._started(words, stdin, stdout, stderr) as ran:
             watch = Watch(words[0], source, ran.pid, output, notes, patience, self.besides)
-            out, said = watch.exchanged(ran, given or b"")
+            out, said = watch.exchanged(ran, given or b"", ended_alone(ran) if notes is not None else lambda: ran.poll() is not None)
         if notes is not None:
             notes.seek(0)
             said = notes.read(MOST_NOTES)
@@ -245,6 +246,21 @@ class Program:
             end_running()
 
 
+def ended_alone(ran: "subprocess.Popen[bytes]") -> Callable[[], bool]:
+    """What tells whether a run has ended, with all of its session, which is ended with it; where the system doesn't tell, with what it can."""
+
+    def has_ended() -> bool:
+        # (what isn't known to have ended still has its number for itself)
+        if ran.returncode is None and hasattr(os, "waitid"):
+            if not has_ended_untaken(ran.pid):
+                return False
+            if not end_left(ran.pid):
+                raise ProgramFailed("what it left behind can't be ended")
+        return ran.poll() is not None
+
+    return has_ended
+
+
 def at_once() -> Patience:
     """The patience with a run that has little to do."""
     return Patience(float("inf"), MOST_AT_ONCE)
@@ -312,18 +328,18 @@ class Watch:
             yield piece
         self.await_end(has_ended)
 
-    def exchanged(self, ran: "subprocess.Popen[bytes]", given: bytes) -> Tuple[bytes, bytes]:
+    def exchanged(self, ran: "subprocess.Popen[bytes]", given: bytes, has_ended: Callable[[], bool]) -> Tuple[bytes, bytes]:
         """The output of a run that is given bytes, and the last of its notes, where these come by pipes. It has ended then."""
         out, said, noted = bytearray(), b"", 0
         sources = [stream.fileno() for stream in (ran.stdout, ran.stderr) if stream is not None]
-        for source, piece in Pipes(sources, lambda: ran.poll() is not None, self.look).pieces(ran.stdin, given):
+        for source, piece in Pipes(sources, has_ended, self.look).pieces(ran.stdin, given):
             if ran.stdout is not None and source == ran.stdout.fileno():
                 out += piece
                 self.see(len(out), MOST_HELD + self._most)
             else:
                 said, noted = (said + piece)[-MOST_NOTES:], noted + len(piece)
                 self.see(noted, MOST_HELD + self._most_noted)
-        self.await_end(lambda: ran.poll() is not None)
+        self.await_end(has_ended)
         return bytes(out), said
 
     def await_end(self, has_ended: Callable[[], bool]) -> None:

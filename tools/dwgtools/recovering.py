@@ -42,8 +42,7 @@ def recovered(program: Program, source: Input, options: argparse.Namespace, writ
             notes.finish()
             whole.finish()
             kept = again(whole.file)
-            with alone_beside(whole):
-                place_both(whole, notes, written)
+            place_in_folder(whole, notes, written)
             return told, read, kept
     except FileExistsError as fault:
         raise ToolError(f"{one_line(str(fault.filename))} is there already", Exit.EXISTS) from None
@@ -52,6 +51,23 @@ def recovered(program: Program, source: Input, options: argparse.Namespace, writ
     except OSError as fault:
         what = "standard output can't be written" if is_standard(options.out) else one_line(options.out)
         raise ToolError(f"{what}: {fault.strerror}", Status.WRITE_FAULT) from None
+
+
+def refuse_moved(whole: WholeFile, what: str) -> None:
+    """Refuses a folder that somebody moved or replaced meanwhile."""
+    if not whole.is_in_place():
+        folder = one_line(os.path.dirname(whole.path) or os.curdir)
+        raise ToolError(f"{folder} was moved or replaced meanwhile, and {what}", Status.WRITE_FAULT)
+
+
+def place_in_folder(whole: WholeFile, notes: WholeFile, written: Written) -> None:
+    """Gives an output and its notes their names; what they would replace stays where its folder was moved before, and they go with one that is moved."""
+    with alone_beside(whole):
+        if whole.replaced() or notes.replaced():
+            refuse_moved(whole, "what is in it stays")
+        place_both(whole, notes, written)
+    written.stands = whole.is_in_place()
+    refuse_moved(whole, f"{one_line(whole.path)} went with it")
 
 
 def run_recover(program: Program, source: Input, out: IO[bytes], notes: IO[bytes], options: argparse.Namespace) -> Tuple[Recovery, ReadAs]:

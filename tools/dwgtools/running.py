@@ -12,7 +12,7 @@ from .outputs import remove_unplaced
 from .processes import end_running
 from .signals import Ended, ignore_signals, take_signals
 from .statuses import Exit, Status, ToolError
-from .streams import await_streams, hush_where_drawing, open_missing_streams, tell
+from .streams import await_streams, hush_where_drawing, open_missing_streams, regain_error, tell
 
 
 def answered(main: Callable[[], int]) -> int:
@@ -51,6 +51,7 @@ def _ran(main: Callable[[], int]) -> int:
 
 def run_tool(main: Callable[[], int]) -> NoReturn:
     """Runs a tool and ends with its status, and never by a traceback. Its scripts begin with interrupts blocked, which this lets in."""
+    regain_error()
     open_missing_streams()
     await_streams()
     hush_where_drawing()

@@ -5,6 +5,7 @@ from __future__ import annotations
 import contextlib
 import os
 import signal
+import sys
 import threading
 import time
 from typing import Iterator, List
@@ -82,10 +83,25 @@ def _end(number: int, _: object) -> None:
     raise Ended(number)
 
 
+def _once_more(dropped: "sys.UnraisableHookArgs") -> None:
+    """Has what a signal ends the tool by end it a moment later, where Python dropped it, as it does at the end of an object."""
+    if not isinstance(dropped.exc_value, (KeyboardInterrupt, Ended)):
+        sys.__unraisablehook__(dropped)
+        return
+    ended: BaseException = dropped.exc_value
+
+    def end(_number: int, _frame: object) -> None:
+        raise ended
+
+    signal.signal(signal.SIGALRM, end)
+    signal.setitimer(signal.ITIMER_REAL, 0.001)
+
+
 def take_signals() -> None:
     """Ends or stops the tool by each signal that isn't ignored already, and lets in an interrupt that waited while Python began."""
     # Where it is ignored, as who began the tool may have it, the system keeps no status of a child, and subprocess would take each for 0.
     signal.signal(signal.SIGCHLD, signal.SIG_DFL)
+    sys.unraisablehook = _once_more
     for number in (*ENDING, signal.SIGTSTP):
         if signal.getsignal(number) != signal.SIG_IGN:
             signal.signal(number, _end if number in ENDING else _pause)

@@ -213,6 +213,14 @@ def tell(message: str) -> bool:
     return False
 
 
+def regain_error() -> None:
+    """Has standard error back where the script of the tool has put it aside: what Python says before this isn't written into a drawing."""
+    aside = sys._xoptions.get("error", "")  # pylint: disable=protected-access
+    if isinstance(aside, str) and aside.isdigit():
+        os.dup2(int(aside), 2)
+        os.close(int(aside))
+
+
 def open_missing_streams() -> None:
     """Opens /dev/null for each standard stream that is closed, so that no file that is opened later stands in its place."""
     for number, name in enumerate(("stdin", "stdout", "stderr")):

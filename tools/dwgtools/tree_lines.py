@@ -8,6 +8,7 @@ from dataclasses import dataclass, field
 from typing import Any, Dict, Optional, Tuple
 
 from .escapes import one_line
+from .log import LED_ELSEWHERE
 from .notes import MAPPING
 from .rows import Row
 from .statuses import Exit, Status, ToolError
@@ -31,7 +32,7 @@ STATUS_OF = {
 }
 # What these are is no failure of the run: they count for its status as any file does that isn't whole.
 NOT_READ = ("other version", "no drawing")
-STATUS_OF_FAILED = {"no memory": Status.NO_MEMORY, "changed while it was checked": Status.READ_FAULT}
+STATUS_OF_FAILED = {"no memory": Status.NO_MEMORY, "changed while it was checked": Status.READ_FAULT, LED_ELSEWHERE: Status.READ_FAULT}
 
 
 # A file that stood at a name: its inode, and the time of its last change in nanoseconds since 1970; None where none did.
@@ -75,8 +76,10 @@ class Made:
 
 @dataclass
 class Line(Row):
-    """A line of the table: what dwg-check says of a file, what became of it, the status, and where OUT has it."""
+    """A line of the table: what dwg-check says of a file, what became of it, the status, and where OUT has it; and the name by which LOG has the file,
+    taken before that was opened."""
 
+    source: str = ""
     outcome: str = ""
     status: int = 0
     output: str = ""

@@ -148,8 +148,8 @@ class TreeLog(Log):
 
     def is_own(self, name: str, digest: str, source: str, there: Optional[os.stat_result]) -> bool:
         """Whether a run wrote a file of such a name and content below OUT, of this source and no other, and none has put another in its place: it is what
-        was written last, or what stood there before where that was never placed, and nobody touched since (but for a link, as a run makes one)."""
-        if digest not in self._own.get((name, self._places.name_of(source)), ()):
+        was written last, or what stood there before where that was never placed, and nobody touched since."""
+        if digest not in self._own.get((name, source), ()):
             return False
         if digest == self._newest.get(name):
             return True
@@ -157,7 +157,7 @@ class TreeLog(Log):
         if there is None or stood is None or stood != state_of(there):
             return False
         # (notes are moved aside, and perhaps put back)
-        return name not in self._last or there.st_ctime_ns <= at_ns or there.st_nlink > 1
+        return name not in self._last or there.st_ctime_ns <= at_ns
 
     def is_of(self, name: str, digest: str, content: Optional[str]) -> bool:
         """Whether a run wrote a file of such a name and content below OUT, of a source of this content."""
@@ -183,8 +183,8 @@ class TreeLog(Log):
         """Keeps it that what was written of a file stands, where runs wrote other outputs of it before."""
         if line.made is None:
             return
-        made, source = line.made, self._places.name_of(line.path)
-        if any(self._own.get((name, source), set()) - {digest} for name, digest in names_of(made)):
+        made = line.made
+        if any(self._own.get((name, line.source), set()) - {digest} for name, digest in names_of(made)):
             self._keep(line, replace(made, placed=True))
 
     def stands_by_another(self, line: Line) -> None:
@@ -197,7 +197,14 @@ class TreeLog(Log):
     def _keep(self, line: Line, made: Optional[Made]) -> None:
         """Keeps a line."""
         row = Kept(**{one.name: getattr(line, one.name) for one in fields(Row)}, made=made)
-        absolute = self._places.name_of(line.path)
-        self.add_line(absolute, row)
+        self.add_line(line.source, self.as_changed((line.source, row.bytes or 0, row.mtime_ns or 0), row) or row)
         if made is not None:
-            self._note(made, absolute, line.sha256)
+            self._note(made, line.source, line.sha256)
+
+    def sync(self) -> None:
+        """Sees to it that what was added is on the disk, before what it tells of is."""
+        try:
+            os.fsync(self._file.fileno())
+        except OSError as fault:
+            self.fault = self.fault or str(fault.strerror)
+            self._tell_fault()

@@ -160,19 +160,22 @@ def planned(options: argparse.Namespace) -> List[Planned]:
     return list(without_clashes(found))
 
 
-def is_passed(source: str) -> bool:
-    """Whether a file has no line: it is there no more, or became a folder or a link or stands beyond one, which isn't followed."""
-    return is_away(source) or absolute_name(source) != source
+def is_passed(word: str, rest: str) -> bool:
+    """Whether a file in a folder that a word names has no line: it is there no more, or became a folder or a link or stands beyond one, which isn't
+    followed."""
+    path = os.path.join(word, rest)
+    return is_away(path) or absolute_name(path) != os.path.join(absolute_name(word), rest)
 
 
-def left_behind(found: Iterable[Planned], written: Dict[str, List[str]], options: argparse.Namespace) -> Iterator[str]:
-    """The outputs, of what runs wrote, that stand in the folders of this one, and whose files aren't there any more: no line of the table is theirs."""
+def left_behind(found: Iterable[Planned], written: Iterable[str], options: argparse.Namespace) -> Iterator[str]:
+    """The names below OUT, of those that runs wrote, that stand in the folders of this one, whose files aren't in these any more: no line of the table
+    is theirs."""
     names = {one.name for one in found}
-    tops = {name_of_word(word) for word in options.files if os.path.isdir(word)}
+    words = {name_of_word(word): word for word in options.files if os.path.isdir(word)}
     for name in sorted(written):
-        out = os.path.join(options.tree, name)
-        if name not in names and name.partition(os.sep)[0] in tops and os.path.lexists(out) and all(map(is_passed, written[name])):
-            yield out
+        top, _, rest = name.partition(os.sep)
+        if name not in names and top in words and os.path.lexists(os.path.join(options.tree, name)) and is_passed(words[top], rest):
+            yield name
 
 
 def refuse_folders(out: str, name: str) -> None:

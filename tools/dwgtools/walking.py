@@ -24,6 +24,10 @@ class Named:
     fault: Optional[str] = None
 
 
+class Word(Named):
+    """A file that a word names itself."""
+
+
 # What the names of drawings end with.
 DRAWINGS = (".dwg",)
 
@@ -185,7 +189,7 @@ def all_named(words: Iterable[str], walk: Walk, end: bytes, folders: List[str]) 
                 folders.append(path)
                 yield from walked(path, walk, seen)
             else:
-                yield Named(path)
+                yield Word(path)
 
 
 def status_of(path: str) -> Optional[os.stat_result]:

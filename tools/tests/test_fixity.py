@@ -846,6 +846,30 @@ class Fixity(common.InFolder):
             (folder / "dwg-check").write_text(f"#!/bin/sh\n{failing}\n")
             (folder / "dwg-check").chmod(0o755)
             self.assertEqual(self.night(PATH=f"{folder}:{TOOLS}:{os.environ['PATH']}", REAL_CHECK=str(TOOLS / "dwg-check")).returncode, 1, failing)
+        # What becomes another between its two runs is told, and LOG takes none of it.
+        a, log = self.archive / "a.dwg", f"dwg-check: {self.log}:"
+        gone = f"of its files are gone, which it keeps (--forget has it forget them); the first is {a}\n"
+        failed = program_that(self.folder, "no-memory", ['[ "$1" != audit ] || exit 6', 'exec "$REAL" "$@"'])
+        more = {"A": str(a), "D": str(self.archive), "N": str(self.file("n.dwg", made.made(9)))}
+        more.update(FAILED=str(failed), REAL_CHECK=str(TOOLS / "dwg-check"), PATH=f"{folder}:{TOOLS}:{os.environ['PATH']}")
+        (folder / "dwg-check").write_text('#!/bin/sh\n[ "$*" != "${*#*--verify}" ] || eval "$BETWEEN"\nexec "$REAL_CHECK" "$@"\n')
+        for between, status, row, said in (
+            (":", 0, "", ""),
+            ('cp "$N" "$D/new.dwg"; printf x >> "$D/new.dwg"', 0, f"{self.archive}/new.dwg\ttrailing bytes", ""),
+            ('printf junk > "$A"', 68, "", f"{log} 1 of its files have another content now, which it doesn't take; the first is {a}\n"),
+            ('rm "$A"', 68, "", f"{log} 1 {gone}"),
+            ('mv "$D" "$D.gone"', 68, f"{self.archive}\tunreadable", f"{log} {len(self.data)} {gone}"),
+            ('export DWG="$FAILED"', 68, f"{a}\tfailed", ""),
+        ):
+            shutil.copytree(self.archive, self.folder / "saved")
+            before = self.log.read_bytes()
+            ran = self.night(BETWEEN=between, **more)
+            self.assertEqual((ran.returncode, "\t".join(ran.stdout.decode().split("\t")[:2]), ran.stderr.decode()), (status, row, said), between)
+            for path in (self.archive, pathlib.Path(f"{self.archive}.gone")):
+                shutil.rmtree(path, ignore_errors=True)
+            os.rename(self.folder / "saved", self.archive)
+            self.assertEqual({**self.compared(), "new.dwg": "missing"}, {**{name: "same" for name in self.data}, "new.dwg": "missing"}, between)
+            self.log.write_bytes(before)
 
     def test_the_output_is_no_file_of_log(self) -> None:
         self.keep()

@@ -3,6 +3,8 @@
 from __future__ import annotations
 
 import argparse
+import contextlib
+import errno
 import fcntl
 import json
 import os
@@ -18,7 +20,7 @@ import time
 import unittest
 import unittest.mock
 from pathlib import Path
-from typing import IO, Any, Iterator, List, Sequence, Tuple, Union
+from typing import IO, Any, Callable, Iterator, List, Sequence, Tuple, Union
 
 import common
 import made
@@ -26,6 +28,7 @@ from made import TOOLS, program_that
 
 from dwgtools import checkers, plane, processes, shapes, walking
 from dwgtools.arguments import whole_number
+from dwgtools.checkers import Checkers, Plain, Quick
 from dwgtools.crew import Crew
 from dwgtools.json_values import Speaker
 from dwgtools.rows import Row
@@ -357,12 +360,53 @@ class Threads(Checked):
         ran = otherwise("dwg-check", ONE_PROCESS, "--quiet", "--jobs", "3", "--program", slow, self.folder / "d")
         self.assertEqual((ran.returncode, ran.stderr, rows(ran.stdout)), (1, b"", [[str(path), *self.REFUSED] for path in paths]))
 
+    def test_idle_processes_leave_room_for_the_runs_of_the_tool(self) -> None:
+        """Where the last process that checks takes the last room, half of them end."""
+        begun: List[int] = []
+        for room, left in ((9, 4), (5, 4), (4, 2), (3, 1), (1, 0), (0, 0)):
+            fork, begun = os.fork, []
+
+            def start(begun: List[int] = begun, room: int = room, fork: Callable[[], int] = fork) -> int:
+                if len(begun) == room:
+                    raise BlockingIOError(errno.EAGAIN, "Resource temporarily unavailable")
+                begun.append(fork())
+                return begun[-1]
+
+            with unittest.mock.patch.object(os, "fork", start), unittest.mock.patch("dwgtools.checkers.processors", return_value=4):
+                members = Checkers(4, lambda: Plain(Quick(made.PROGRAM), None, False))
+            try:
+                self.assertEqual(sum(is_there(number) for number in begun), left, room)
+                found = [members.check(str(path)) for path in self.drawings(3)]
+                self.assertEqual([row.verdict for row in found if row is not None], ["damaged"] * len(found) if left else [])
+            finally:
+                members.end()
+
     def test_an_interrupt_without_threads(self) -> None:
         self.drawings(3)
         slow = self.refusing('kill -INT "$PPID"; exec sleep 30')
         ran = otherwise("dwg-check", FEW_THREADS.format(count=0), "--quiet", "--program", slow, self.folder / "d")
         self.assertEqual((ran.returncode, ran.stderr), (130, b""))
 
+
+def is_there(number: int) -> bool:
+    """Whether a process of this one is there, and hasn't ended."""
+    with contextlib.suppress(ChildProcessError):
+        return os.waitpid(number, os.WNOHANG)[0] == 0
+    return False
+
+
+# Sends the tool a signal as Python lets an object go, where it drops what is raised.
+AT_THE_END_OF_AN_OBJECT = """
+import os, sys, signal, runpy
+number, tool, sys.argv = int(sys.argv[1]), sys.argv[2], sys.argv[2:]
+sys.path.insert(0, os.path.dirname(tool))
+def hook(frame, event, _):
+    if event == "call" and frame.f_code.co_name == "__del__" and frame.f_code.co_filename.endswith("spools.py"):
+        sys.setprofile(None)
+        os.kill(os.getpid(), number)
+sys.setprofile(hook)
+runpy.run_path(tool, run_name="__main__")
+"""
 
 # Interrupts the tool when a run has begun, and before anybody has it.
 INTERRUPTED = """
@@ -487,6 +531,29 @@ class Signals(Checked):
         self.assertNotIn(session, (number, os.getsid(0)))
         os.kill(session, signal.SIGKILL)
         self.assertTrue(ended(number))
+
+    def test_a_signal_at_the_end_of_an_object_ends_the_tool_all_the_same(self) -> None:
+        for count in range(3):
+            self.file(f"d/{count}.dwg", made.made(3, count))
+        for number, status in ((signal.SIGINT, 130), (signal.SIGTERM, 143), (signal.SIGHUP, 129)):
+            words = [sys.executable, "-B", "-X", "utf8", "-c", AT_THE_END_OF_AN_OBJECT, str(int(number)), str(TOOLS / "dwg-info"), str(self.folder / "d")]
+            ran = subprocess.run(words, capture_output=True, check=False, env={**os.environ, "DWG": made.PROGRAM})
+            self.assertEqual((ran.returncode, ran.stderr), (status, b""))
+
+    def test_a_drawing_that_is_standard_error_where_no_tool_can_begin(self) -> None:
+        """Nothing is written into it, whoever has something to say."""
+        path = self.file("a.dwg", made.made(3))
+        place = self.folder / "bin"
+        place.mkdir()
+        for name in ("sh", "env", "head", "tr"):
+            (place / name).symlink_to(str(shutil.which(name)))
+        (place / "python3").write_text("#!/bin/sh\necho no memory >&2; exit 1\n")
+        for mode, status in ((0o644, {126, 127}), (0o755, {1})):
+            (place / "python3").chmod(mode)
+            for name in ("dwg-check", "dwg-diff", "dwg-info", "dwg-json", "dwg-picture", "dwg-recover"):
+                with open(path, "ab") as error:
+                    ran = subprocess.run([str(TOOLS / name), str(path)], stdout=subprocess.PIPE, stderr=error, check=False, env={"PATH": str(place)})
+                self.assertEqual((ran.returncode in status, ran.stdout, path.read_bytes()), (True, b"", made.made(3)), (name, ran.returncode))
 
     def test_a_second_signal_is_no_fault_of_python(self) -> None:
         # Of one that is ignored while it waits, Python tells by a traceback. One that was ignored from the begin stays so.

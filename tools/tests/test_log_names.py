@@ -42,7 +42,7 @@ class Names(common.InFolder):
 
     def volume(self, name: str, *drawings: str) -> pathlib.Path:
         """A folder with some of the drawings."""
-        (self.folder / name).mkdir()
+        (self.folder / name).mkdir(parents=True)
         for drawing in drawings:
             self.file(f"{name}/{drawing}", DATA[drawing])
         return self.folder / name
@@ -200,8 +200,121 @@ class Names(common.InFolder):
         self.assertEqual(self.compare(), (68, {"archive/c.dwg": "same", "archive/link/a.dwg": "missing"}))
         told = "1 of its files are gone, {}; the first is second/a.dwg".format
         self.assertEqual(self.keep("--follow", archive), [told("which it keeps (--forget has it forget them)")])
+        # (it may be a volume that isn't mounted)
+        self.assertEqual(self.keep("--follow", "--forget", archive), [told("which it keeps (since nothing can be read where they were)")])
+        shutil.copy(archive / "c.dwg", second / "d.dwg")
         self.assertEqual(self.keep("--follow", "--forget", archive), [told("and it has them no more")])
-        self.assertEqual((self.compare(), self.keep("--follow", archive)), ((0, {"archive/c.dwg": "same"}), []))
+        there = {"archive/c.dwg": "same", "archive/link/d.dwg": "same"}
+        self.assertEqual((self.compare(), self.keep("--follow", archive)), ((0, there), []))
+
+    def test_a_link_that_is_gone_with_its_file_is_told(self) -> None:
+        """Whether the file was moved or is forgotten, LOG has the link until it is told to forget that."""
+        old, links = self.volume("archive/old", "a.dwg"), self.volume("archive/links", "b.dwg")
+        archive = self.folder / "archive"
+        (links / "current.dwg").symlink_to("../old/a.dwg")
+        self.assertEqual(self.keep("--follow", archive), [])
+        old.rename(archive / "new")
+        (links / "current.dwg").unlink()
+        missing = "missing"
+        status, told = self.compare(archive)
+        self.assertEqual((status, told["archive/links/current.dwg"]), (68, missing))
+        moved = "1 of its files have other names now; the first is archive/old/a.dwg"
+        gone = "1 of its files are gone, {}; the first is archive/links/current.dwg".format
+        self.assertEqual(self.keep("--follow", archive), [moved, gone("which it keeps (--forget has it forget them)")])
+        self.assertEqual(self.compare(archive)[1]["archive/links/current.dwg"], missing)
+        self.assertEqual(self.keep("--follow", "--forget", archive), [gone("and it has them no more")])
+        self.assertEqual(self.compare(archive)[0], 0)
+        (links / "current.dwg").symlink_to("../new/a.dwg")
+        self.assertEqual(self.keep("--follow", archive), [])
+        (links / "current.dwg").unlink()
+        (archive / "new" / "a.dwg").unlink()
+        both = "2 of its files are gone, {}; the first is archive/links/current.dwg".format
+        self.assertEqual(self.keep("--follow", archive), [both("which it keeps (--forget has it forget them)")])
+
+    def test_a_file_that_was_a_link_once_is_compared_by_its_own_content(self) -> None:
+        """Also where LOG took it by another link since."""
+        first, second = self.volume("v", "a.dwg"), self.volume("w", "b.dwg")
+        (first / "f.dwg").symlink_to(second / "b.dwg")
+        (self.folder / "a").mkdir()
+        (self.folder / "a" / "d").symlink_to(first)
+        self.assertEqual(self.keep("--follow", first), [])
+        (first / "f.dwg").unlink()
+        (first / "f.dwg").write_bytes(made.made(40, 40))
+        other = "1 of its files have another content now, which it takes; the first is v/f.dwg"
+        self.assertEqual(self.keep("--follow", self.folder / "a"), [other])
+        os.replace(shutil.copy(second / "b.dwg", self.folder / "b.dwg"), first / "f.dwg")
+        self.assertEqual(self.compare(first)[1]["v/f.dwg"], "changed it had " + str(len(made.made(40, 40))) + " bytes")
+        self.assertEqual(self.keep("--follow", first), [other])
+
+    def test_a_link_to_a_file_that_was_moved_is_compared_by_what_it_had(self) -> None:
+        volume = self.volume("d", "a.dwg", "b.dwg")
+        (volume / "l.dwg").symlink_to("a.dwg")
+        self.assertEqual(self.keep("--follow", volume), [])
+        (volume / "a.dwg").rename(volume / "c.dwg")
+        self.assertEqual(self.keep("--follow", volume), ["1 of its files have other names now; the first is d/a.dwg"])
+        for target, said in (("c.dwg", "same"), ("b.dwg", f"changed it led to {volume}/a.dwg".replace(f"{self.folder}/", ""))):
+            (volume / "l.dwg").unlink()
+            (volume / "l.dwg").symlink_to(target)
+            self.assertEqual(self.compare(volume)[1]["d/l.dwg"], said)
+        self.assertEqual(self.keep("--follow", volume), ["1 of its files have another content now, which it takes; the first is d/l.dwg"])
+        self.assertEqual(self.compare("--follow", volume)[0], 0)
+
+    def test_a_link_that_leads_elsewhere_is_told_where_that_changed_by_itself(self) -> None:
+        volume = self.volume("d", "a.dwg", "b.dwg")
+        (volume / "l.dwg").symlink_to("a.dwg")
+        self.assertEqual(self.keep("--follow", volume), [])
+        whole, told = (volume / "b.dwg").read_bytes(), os.stat(volume / "b.dwg")
+        for data in (whole[:-1] + bytes([whole[-1] ^ 1]), whole):
+            (volume / "b.dwg").write_bytes(data)
+            os.utime(volume / "b.dwg", ns=(told.st_atime_ns, told.st_mtime_ns))
+            if data != whole:
+                (volume / "l.dwg").unlink()
+                (volume / "l.dwg").symlink_to("b.dwg")
+                ran = tool("dwg-check", "--quiet", "--resume", self.log, "--verify", "--follow", volume)
+                self.assertEqual([line.split(b"\t")[1] for line in ran.stdout.splitlines()[1:]], [b"sound", b"changed", b"changed"])
+        self.assertEqual(self.keep("--follow", volume), ["1 of its files have another content now, which it takes; the first is d/l.dwg"])
+
+    def test_a_volume_that_is_not_mounted_is_not_forgotten(self) -> None:
+        """Below a folder that is named, or beyond a link in that."""
+        archive, elsewhere = self.volume("archive", "c.dwg"), self.volume("mount/plans", "a.dwg", "b.dwg")
+        inner = self.volume("archive/vol", "b.dwg")
+        (archive / "link").symlink_to(elsewhere)
+        (archive / "l.dwg").symlink_to(elsewhere / "a.dwg")
+        self.assertEqual(self.keep("--follow", archive), [])
+        shutil.rmtree(elsewhere)
+        (inner / "b.dwg").unlink()
+        said = "since nothing can be read where they were"
+        kept = [line for line in self.keep("--follow", "--forget", archive) if "are gone" in line]
+        self.assertEqual((len(kept), all(said in line for line in kept), any("no more" in line for line in kept)), (1, True, False), kept)
+        self.assertEqual([name for name, told in self.compare()[1].items() if told == "missing"].count("archive/vol/b.dwg"), 1)
+        # By its name it is forgotten.
+        self.assertIn("and it has them no more", self.keep("--follow", "--forget", archive, inner / "b.dwg")[0])
+
+    def test_nothing_is_forgotten_that_cannot_be_told(self) -> None:
+        volume = self.volume("d", "a.dwg", "b.dwg", "c.dwg")
+        self.assertEqual(self.keep(volume), [])
+        (volume / "a.dwg").unlink()
+        (volume / "b.dwg").rename(volume / "e.dwg")
+        before = self.log.read_bytes()
+        with open("/dev/full", "wb") as full:
+            words = [str(made.TOOLS / "dwg-check"), "--quiet", "--forget", "--fixity", str(self.log), str(volume)]
+            ran = subprocess.run(words, stdout=subprocess.DEVNULL, stderr=full, check=False, env={**os.environ, "DWG": made.PROGRAM})
+        self.assertEqual((ran.returncode, b'"forgotten"' in self.log.read_bytes()[len(before) :]), (70, False))
+        self.assertEqual(self.keep("--forget", volume), ["2 of its files are gone, and it has them no more; the first is d/a.dwg"])
+
+    def test_other_contents_are_not_taken_where_only_new_files_are_added(self) -> None:
+        volume = self.volume("d", "a.dwg", "b.dwg")
+        self.assertEqual(self.keep(volume), [])
+        (volume / "a.dwg").write_bytes(made.made(41, 41))
+        (volume / "b.dwg").rename(volume / "c.dwg")
+        (volume / "new.dwg").write_bytes(made.made(42, 42))
+        other = "1 of its files have another content now, which it doesn't take; the first is d/a.dwg"
+        for told in ([other, "1 of its files have other names now; the first is d/b.dwg"], [other]):
+            ran = tool("dwg-check", "--quiet", "--add", "--fixity", self.log, volume)
+            self.assertEqual((ran.returncode, [line.partition(": ")[2].partition(": ")[2] for line in ran.stderr.decode().replace(f"{self.folder}/", "").splitlines()]), (68, told))
+            states = {name: said.split()[0] for name, said in self.compare(volume)[1].items()}
+            self.assertEqual(states, {"d/a.dwg": "changed", "d/c.dwg": "same", "d/new.dwg": "same"})
+        self.assertEqual(tool("dwg-check", "--add", "--resume", self.log, volume).returncode, 64)
 
     def test_a_file_that_could_not_be_read_and_is_gone(self) -> None:
         volume = self.volume("d", "a.dwg")

@@ -22,7 +22,7 @@ import made
 from by_format import page
 from made import TOOLS, TOP, dwg, flipped, hole, layout, program_that, shown, tool, with_page
 
-from dwgtools import chains
+from dwgtools import chains, outputs
 from dwgtools.drawings import Drawing
 from dwgtools.mapped import is_page_spelled
 from dwgtools.outputs import WholeFile
@@ -157,26 +157,28 @@ class Recover(unittest.TestCase):
                         file.file.write(b"new")
                         file.finish()
                     stopped = whole if failing == "out" else notes
-                    with unittest.mock.patch.object(stopped, "place", side_effect=OSError), self.assertRaises(OSError):
+                    with unittest.mock.patch.object(stopped, "placed", side_effect=OSError), self.assertRaises(OSError):
                         place_both(whole, notes, written)
                 self.assertEqual({name: pathlib.Path(folder, name).read_bytes() for name in os.listdir(folder)}, old)
                 self.assertFalse(written.stands)
 
     def test_a_pair_is_of_one_run_whatever_fails(self) -> None:
-        """Whichever calls fail by which files are named: no output stands beside the notes of another, and where what is away is, that is told."""
+        """Whichever calls fail by which files are named, and whether the system exchanges names or makes links: no output stands beside the notes of
+        another, and where what is away is, that is told."""
         old: Dict[str, bytes] = {"out": b"o", "out.notes": b"n"}
         names = [name for count in range(3) for name in itertools.combinations(old, count)]
         turns = [failing for count in (1, 2) for failing in itertools.combinations(range(1, 7), count)]
         seen = set()
-        for there, has_links, failing in itertools.product(names, (True, False), turns):
-            with self.subTest(there=there, has_links=has_links, failing=failing), tempfile.TemporaryDirectory() as folder:
+        for there, has_links, has_renames, failing in itertools.product(names, (True, False), (True, False), turns):
+            with self.subTest(there=there, has_links=has_links, has_renames=has_renames, failing=failing), tempfile.TemporaryDirectory() as folder:
                 for name in there:
                     pathlib.Path(folder, name).write_bytes(old[name])
                 written = Written(os.path.join(folder, "out"))
-                is_whole = placed(written, failing, has_links)
+                is_whole = placed(written, failing, has_links, has_renames)
                 standing = {name: pathlib.Path(folder, name).read_bytes() for name in os.listdir(folder) if not name.startswith(".")}
                 pair = tuple(standing.get(name) for name in old)
                 seen.add(pair)
+                self.assertFalse(pair[1] == b"" and (has_links or has_renames))
                 self.assertNotIn(pair, [(b"new", b"n"), (b"o", b"new"), (None, b"new")])
                 self.assertEqual(is_whole, pair == (b"new", b"new"))
                 self.assertEqual(written.stands, pair[0] == b"new")
@@ -184,8 +186,61 @@ class Recover(unittest.TestCase):
                     self.assertEqual("is there, the new one, without its notes" in str(written), pair[0] == b"new")
                     kept = {pathlib.Path(path).read_bytes() for path in re.findall(r"before is in (\S+\.part)", str(written))}
                     lost = {old[name] for name in there} - set(pair) - kept
-                    self.assertFalse(lost if has_links else lost - {b"o"}, str(written))
-        self.assertEqual({pair for pair in seen if pair[0] == b"new"}, {(b"new", b"new"), (b"new", None)})
+                    self.assertFalse(lost if has_links or has_renames else lost - {b"o"}, str(written))
+        # (an empty file takes the name before where the system has neither, and stays where it can't be removed, which is told)
+        self.assertEqual({pair for pair in seen if pair[0] == b"new"}, {(b"new", b"new"), (b"new", None), (b"new", b"")})
+
+    def test_what_somebody_else_put_there_is_not_taken_back(self) -> None:
+        """Where the notes can't take their name, and the output has another one's by then."""
+        for old, has_renames in itertools.product(({}, {"out": b"o", "out.notes": b"n"}), (True, False)):
+            with self.subTest(old=old, has_renames=has_renames), tempfile.TemporaryDirectory() as folder, contextlib.ExitStack() as patched:
+                for name, data in (*old.items(), ("his", b"his own")):
+                    pathlib.Path(folder, name).write_bytes(data)
+                written = Written(os.path.join(folder, "out"))
+                if not has_renames:
+                    patched.enter_context(unittest.mock.patch("dwgtools.outputs.renamed", return_value=False))
+
+                def failing() -> None:
+                    os.replace(os.path.join(folder, "his"), written.out)
+                    raise OSError(5, "Input/output error")
+
+                with WholeFile(written.out, bool(old)) as whole, WholeFile(written.out + ".notes", bool(old)) as notes:
+                    for file in (whole, notes):
+                        file.finish()
+                    with unittest.mock.patch.object(notes, "place", failing), self.assertRaises(OSError):
+                        place_both(whole, notes, written)
+                self.assertEqual((pathlib.Path(written.out).read_bytes(), written.stands), (b"his own", False))
+                told = re.findall(r"what was (\S+) before is in (\S+\.part)", str(written))
+                self.assertEqual({os.path.basename(name): pathlib.Path(path).read_bytes() for name, path in told}, old)
+                self.assertEqual(len(os.listdir(folder)), 1 + len(old))
+
+    def test_an_input_that_is_moved_onto_the_output_stays(self) -> None:
+        text = self.folder / "text"
+        contents = {self.source: without([0x40]), text: dwg("show", given=DATA).stdout}
+        for moved, place in itertools.product(contents, (self.out, self.notes)):
+            for path, data in (*contents.items(), (self.out, b"o"), (self.notes, b"n")):
+                path.write_bytes(data)
+            stand_in = program_that(self.folder, "stand-in", [f'[ "$1" != recover ] || mv "{moved}" "{place}"', 'exec "$REAL" "$@"'])
+            ran = tool("dwg-recover", "--force", "--before", text, "--program", stand_in, self.source, self.out)
+            said = f"dwg-recover: {place} is the input itself; name another output\n"
+            self.assertEqual((ran.returncode, ran.stdout, ran.stderr.decode(), place.read_bytes()), (73, b"", said, contents[moved]))
+            (other,) = {self.out, self.notes} - {place}
+            self.assertEqual(other.read_bytes(), b"o" if other == self.out else b"n")
+            self.assertEqual(len(os.listdir(self.folder)), 4)
+
+    def test_what_is_in_a_folder_that_is_moved_stays(self) -> None:
+        """A recovery that somebody sets aside isn't the one that is to be replaced."""
+        self.source.write_bytes(without([0x40]))
+        new, moved = self.folder / "new", self.folder / "moved"
+        stand_in = program_that(self.folder, "stand-in", [f'[ "$1" != recover ] || mv "{new}" "{moved}"', 'exec "$REAL" "$@"'])
+        for name in ("out", "out.notes"):
+            new.mkdir()
+            (new / name).write_bytes(b"old")
+            ran = tool("dwg-recover", "--force", "--program", stand_in, self.source, new / "out")
+            said = f"dwg-recover: {new} was moved or replaced meanwhile, and what is in it stays\n"
+            self.assertEqual((ran.returncode, ran.stdout, ran.stderr.decode()), (5, b"", said))
+            self.assertEqual({path.name: path.read_bytes() for path in moved.iterdir()}, {name: b"old"})
+            shutil.rmtree(moved)
 
     def test_old_notes_that_are_gone_are_told_so(self) -> None:
         for name in ("out", "out.notes"):
@@ -709,8 +764,9 @@ object 34 LINE raw 19
             self.assertEqual({f"{chain.block:X}" for chain in chains.Chains(survey).broken()}, found, f"{handle:X}")
 
 
-def placed(written: Any, failing: Iterable[int], has_links: bool) -> bool:
-    """Whether a new output and new notes took their names, where the calls of these turns fail by which files are named."""
+def placed(written: Any, failing: Iterable[int], has_links: bool, has_renames: bool) -> bool:
+    """Whether a new output and new notes took their names, where the calls of these turns fail by which files are named, and the system has renames
+    that exchange names or replace nothing, or none."""
     turn = itertools.count(1)
 
     def counted(call: Any) -> Any:
@@ -727,6 +783,8 @@ def placed(written: Any, failing: Iterable[int], has_links: bool) -> bool:
             file.finish()
         for name in ("rename", "replace", "unlink"):
             patched.enter_context(unittest.mock.patch.object(os, name, counted(getattr(os, name))))
+        renamed = counted(outputs.renamed) if has_renames else lambda *_: False
+        patched.enter_context(unittest.mock.patch("dwgtools.outputs.renamed", renamed))
         # (what can't be removed is told)
         patched.enter_context(unittest.mock.patch("dwgtools.outputs.tell"))
         if not has_links:

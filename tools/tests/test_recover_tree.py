@@ -115,10 +115,11 @@ def expected_tree(name: str, files: Dict[bytes, Tuple[bytes, str]], copies: bool
     return expected
 
 
-# Nothing takes a name that ends so.
+# Nothing takes a name that ends so, where the system has no other renames than the plain one.
 NO_RENAME = """
 import os
 replace = os.replace
+outputs.renamed = lambda *words: False
 def failing(old, new, **more):
     if new.endswith({names}):
         raise PermissionError(1, "Operation not permitted")
@@ -550,7 +551,7 @@ class Refusals(Tree):
     def test_a_link_that_comes_meanwhile_leads_nowhere(self) -> None:
         """What another puts in place of a folder below OUT, at whatever moment, is neither written to nor removed from."""
         victim = {"a.dwg": drawn(7, 7), "a.dwg.notes": b"precious"}
-        moments = ("growing.Growing.folder", "outputs.WholeFile.__enter__", "outputs.WholeFile.finish", "growing.Growing.place_alone", "outputs.WholeFile.place")
+        moments = ("growing.Growing.folder", "outputs.WholeFile.__enter__", "outputs.WholeFile.finish", "growing.Growing.place_alone", "outputs.WholeFile.placed")
         for moment in moments:
             for data in (self.data, drawn(5, 5)):
                 with self.subTest(moment=moment, is_whole=data != self.data):
@@ -815,6 +816,22 @@ class Resumed(Tree):
         self.grown(1, "--program", program, self.plans)
         self.assertEqual((self.runs().count("recover") >= len(before) // 2, tree_of(self.out)), (True, before))
 
+    def test_a_content_that_changed_by_itself_stays_changed_in_log(self) -> None:
+        """Of the same size and time, whether it is damaged now or still sound."""
+        whole = drawn(8, 1)
+        source, log = self.plans / "x.dwg", self.out / LOG
+        other = next(data for data in (drawn(8, seed) for seed in range(2, 500)) if len(data) == len(whole))
+        for count, data in enumerate((flipped(whole, layout(whole).frames[-1].place + 4), other)):
+            shutil.rmtree(self.out, ignore_errors=True)
+            source.write_bytes(whole)
+            os.utime(source, ns=(10**18, 10**18))
+            self.assertEqual([row["outcome"] for row in self.grown(0, source)], ["sound"])
+            source.write_bytes(data)
+            os.utime(source, ns=(10**18, 10**18))
+            self.grown(1 - count, source)
+            ran = tool("dwg-check", "--quiet", "--fixity", log, "--verify")
+            self.assertEqual((ran.returncode, ran.stdout.split(b"\n")[1].split(b"\t")[1:3]), (68, [b"changed", b"of the same size and time"]))
+
     def test_what_log_has_is_made_of_the_content_that_has_the_sha_256(self) -> None:
         """Whoever changes a file while it is recovered, and leaves size and time as they are, changes no line of LOG, nor what is written."""
         for command in ("audit", "recover"):
@@ -958,17 +975,23 @@ class Resumed(Tree):
         order: List[str] = []
         grower = growing.Growing.__new__(growing.Growing)
         grower.one, grower.out, grower.notes = Planned("a.dwg", None, "a.dwg"), "a.dwg", "a.dwg.notes"
-        grower.tree = SimpleNamespace(add=lambda line, _: order.append(f"log {line.made.output}"), stands=lambda line: order.append("stands"), fault="")
+        adds = {"add": lambda line, _: order.append(f"log {line.made.output}"), "sync": lambda: order.append("sync")}
+        grower.tree = SimpleNamespace(**adds, stands=lambda line: order.append("stands"), fault="")
         grower.grower = SimpleNamespace(alone=lambda file: contextlib.nullcontext(), written=set())
         grower.may_replace = lambda file, line, made, files: None
+        grower.refuse_moved = lambda whole, more="": None
         whole = SimpleNamespace(finish=lambda: None, name="a.dwg", there=lambda name: None, force=False)
         grower.place(None, Line("a.dwg"), Made("a.dwg", "0" * 64), [(whole, "")], lambda: order.append("place"))
         self.assertEqual(order, ["log a.dwg", "place", "stands"])
+        # What is replaced is gone after a power cut too, and so LOG is on the disk before.
+        whole.force = True
+        grower.place(None, Line("a.dwg"), Made("a.dwg", "0" * 64), [(whole, "")], lambda: order.append("place"))
+        self.assertEqual(order[3:], ["log a.dwg", "sync", "place", "stands"])
         # Where LOG can't be written nothing is replaced.
-        grower.tree.fault, whole.force = "No space left on device", True
+        grower.tree.fault = "No space left on device"
         with self.assertRaisesRegex(ToolError, "a.dwg is left as it is, since the log can't be written: No space left on device"):
             grower.place(None, Line("a.dwg"), Made("a.dwg", "0" * 64), [(whole, "")], lambda: order.append("place"))
-        self.assertEqual(order[3:], ["log a.dwg"])
+        self.assertEqual(order[7:], ["log a.dwg", "sync"])
 
     def begun(self, *words: object) -> "subprocess.Popen[bytes]":
         """A run that has begun."""
@@ -1020,15 +1043,16 @@ class Resumed(Tree):
     KILLED = """
 import os, signal
 from dwgtools import growing
-place, turns = outputs.WholeFile.place, [0]
+placed, turns = outputs.WholeFile.placed, [0]
 def killing(file):
     turns[0] += 1
     if turns[0] == {turn} and {before}:
         os.kill(os.getpid(), signal.SIGKILL)
-    place(file)
+    aside = placed(file)
     if turns[0] == {turn}:
         os.kill(os.getpid(), signal.SIGKILL)
-outputs.WholeFile.place = killing
+    return aside
+outputs.WholeFile.placed = killing
 """
 
     def test_killed_while_files_take_their_names(self) -> None:
@@ -1353,6 +1377,146 @@ class Before(Tree):
         self.grown(0, "--quiet", self.plans, said=said)
 
 
+# Somebody saves a file as an output, once that was looked at; with other lines before.
+SAVING = """
+import os
+from dwgtools import growing
+{lines}
+add = growing.TreeLog.add
+def saving(log, *words):
+    add(log, *words)
+    os.replace({mine!r}, {place!r})
+growing.TreeLog.add = saving
+"""
+
+# The tool is killed outright before LOG has it that an output stands.
+KILLED_AFTER_PLACING = """
+import os, signal
+from dwgtools import growing
+growing.TreeLog.stands = lambda *words: os.kill(os.getpid(), signal.SIGKILL)
+"""
+
+NO_RENAMES = "outputs.renamed = outputs.renamed_to_new = lambda *words: False"
+
+
+class Meanwhile(Tree):
+    """What somebody does while a run goes on."""
+
+    def setUp(self) -> None:
+        super().setUp()
+        self.data = older(drawn(20, 1)), older(drawn(21, 1))
+        self.source, self.place, self.notes = self.plans / "x.dwg", self.out / "plans" / "x.dwg", self.out / "plans" / "x.dwg.notes"
+        self.begin()
+
+    def begin(self) -> None:
+        """Recovers a first content, and has the file have another."""
+        shutil.rmtree(self.out, ignore_errors=True)
+        self.source.write_bytes(self.data[0])
+        self.grown(1, self.plans)
+        self.before = tree_of(self.out)
+        self.source.write_bytes(self.data[1])
+
+    def acting(self, command: str, act: str) -> Path:
+        """A program that does something before it answers a command."""
+        return program_that(self.folder, "acting", [f'[ "$1" != {command} ] || {{ {act}; }}', 'exec "$REAL" "$@"'])
+
+    def test_a_folder_that_is_moved_is_written_into_no_further(self) -> None:
+        aside = self.folder / "aside"
+        for more in (":", f'mkdir "{self.out}/plans"', f'cp -r "{aside}" "{self.out}/plans"'):
+            self.begin()
+            (row,) = self.grown(73, "--program", self.acting("recover", f'mv "{self.out}/plans" "{aside}"; {more}'), self.plans)
+            self.assertEqual((row["outcome"], row["output"]), ("refused", ""))
+            self.assertIn(f"; {self.out}/plans was moved or replaced meanwhile", row["detail"])
+            self.assertEqual({b"plans/" + name: data for name, data in tree_of(aside).items()}, self.before)
+            self.grown(1, self.plans)
+            self.assertEqual(self.place.read_bytes(), dwg("recover", given=self.data[1]).stdout)
+            shutil.rmtree(aside)
+
+    def test_what_is_saved_between_the_look_and_the_placing_stays(self) -> None:
+        mine = self.folder / "mine"
+        for lines, place, force in itertools.product(("", NO_RENAMES), (self.place, self.notes), ([], ["--force"])):
+            self.begin()
+            mine.write_bytes(b"his own")
+            saving = SAVING.format(lines=lines, mine=str(mine), place=str(place))
+            ran = test_limits.otherwise("dwg-recover", saving, "--program", made.PROGRAM, *force, "--tree", self.out, self.plans)
+            (row,) = rows(ran.stdout)
+            self.assertEqual((ran.returncode, row["outcome"], row["output"]), (73, "refused", ""))
+            self.assertIn(f"; {place} was changed or replaced meanwhile", row["detail"])
+            self.assertEqual(tree_of(self.out), {**self.before, os.fsencode(place.relative_to(self.out)): b"his own"})
+
+    def test_a_log_that_is_read_too(self) -> None:
+        os.link(self.out / LOG, self.plans / "an older log")
+        self.assertEqual(self.refused(73, "--all", self.plans), f"dwg-recover: {self.out}/{LOG} is a file that is read\n")
+
+    def test_what_the_program_leaves_behind_writes_nothing_more(self) -> None:
+        left, flag, out = self.folder / "left", self.folder / "flag", self.folder / "one.dwg"
+        self.addCleanup(flag.touch)
+        late = f"sh -c 'echo $$ >\"{left}\"; while [ ! -e \"{flag}\" ]; do sleep 0.02; done; echo LATE; echo LATE >&2'"
+        answer = dwg("recover", given=self.data[1])
+        for begun, words in itertools.product((late, f"timeout 100 {late}"), (["--tree", self.out, self.plans], ["--force", self.source, out])):
+            program = self.acting("recover", f'{begun} & while [ ! -s "{left}" ]; do sleep 0.02; done')
+            ran = tool("dwg-recover", "--program", program, *words)
+            self.assertEqual((ran.returncode, test_limits.is_running(int(left.read_text()))), (1, False), (begun, ran.stderr))
+            for path in (out,) if out in words else (self.place,):
+                self.assertEqual((path.read_bytes(), Path(f"{path}.notes").read_bytes()), (answer.stdout, answer.stderr))
+            left.unlink()
+            self.begin()
+
+    def test_the_last_of_an_answer_may_come_after_the_end(self) -> None:
+        """As what a wrapper gives to `tee`."""
+        kept = self.folder / "kept"
+        lines = f'"$REAL" "$@" >"{kept}" 2>"{kept}.notes"; status=$?; (sleep 0.2; cat "{kept}"; cat "{kept}.notes" >&2) & exit $status'
+        self.grown(1, "--program", self.acting("recover", lines), self.plans)
+        answer = dwg("recover", given=self.data[1])
+        self.assertEqual((self.place.read_bytes(), self.notes.read_bytes()), (answer.stdout, answer.stderr))
+
+    def test_an_output_that_was_put_back_by_links_after_a_kill_stays(self) -> None:
+        snapshot = self.folder / "snapshot"
+        shutil.copytree(self.out / "plans", snapshot, copy_function=os.link)
+        ran = test_limits.otherwise("dwg-recover", KILLED_AFTER_PLACING, "--program", made.PROGRAM, "--tree", self.out, self.plans)
+        self.assertEqual((ran.returncode, self.place.read_bytes()), (-9, dwg("recover", given=self.data[1]).stdout))
+        for path in (self.place, self.notes):
+            path.unlink()
+            os.link(snapshot / path.name, path)
+        for _ in range(2):
+            (row,) = self.grown(73, self.plans)
+            self.assertEqual((row["outcome"], {name: tree_of(self.out)[name] for name in self.before}), ("refused", self.before))
+
+    def test_a_link_that_is_led_elsewhere_is_none_of_another_file(self) -> None:
+        link = self.folder / "current"
+        for name, data in zip("AB", self.data):
+            (self.folder / name).mkdir()
+            (self.folder / name / "x.dwg").write_bytes(data)
+        shutil.rmtree(self.out)
+        for command in ("audit", "recover"):
+            link.unlink(missing_ok=True)
+            link.symlink_to("A")
+            ran = tool("dwg-recover", "--program", self.acting(command, f'ln -sfn B "{link}"'), "--tree", self.out, link)
+            (row,) = rows(ran.stdout)
+            self.assertEqual((ran.returncode, row["outcome"], row["status"], row["output"]), (4, "failed", "4", ""))
+            self.assertEqual(row["detail"].rpartition("; ")[2], "its name led to another file while it was read")
+            self.assertEqual((self.logged(), tree_of(self.out)), ([], {}))
+
+    def test_outputs_of_what_a_link_led_to_before_are_told(self) -> None:
+        link = self.folder / "current"
+        for name, files in (("A", "xy"), ("B", "x"), ("C", "")):
+            (self.folder / name).mkdir()
+            for file in files:
+                (self.folder / name / f"{file}.dwg").write_bytes(self.data[0])
+        link.symlink_to("A")
+        self.grown(1, "--quiet", link, said="")
+        for name, status, said in (("B", 1, "an output stands whose file isn't there any more: {0}/y.dwg"), ("C", 66, "2 outputs stand whose files aren't there any more, the first is {0}/x.dwg")):
+            link.unlink()
+            link.symlink_to(name)
+            ran = tool("dwg-recover", "--quiet", "--tree", self.out, link)
+            self.assertEqual((ran.returncode, ran.stderr.decode().splitlines()[-1]), (status, f"dwg-recover: {said.format(self.out / 'current')}"))
+        # What is somebody else's now isn't told.
+        (self.out / "current" / "x.dwg").write_bytes(b"his own")
+        (self.out / "current" / "y.dwg").unlink()
+        ran = tool("dwg-recover", "--quiet", "--tree", self.out, link)
+        self.assertEqual((ran.returncode, b"stand" in ran.stderr), (66, False), ran.stderr)
+
+
 class Recipe(Tree):
     """The manual page's way to recover all that is damaged."""
 
@@ -1464,7 +1628,7 @@ class Replaced(Tree):
         """Whatever of the old output and its notes stands then; and what was put back after it from elsewhere stays."""
         source, out = self.plans / "x.dwg", self.out / "x.dwg"
         kept = self.folder / "kept"
-        for is_placed, is_linked, is_put_back in itertools.product((False, True), (False, True), (False, True)):
+        for is_placed, is_aside, is_put_back in itertools.product((False, True), (False, True), (False, True)):
             shutil.rmtree(self.out, ignore_errors=True)
             shutil.rmtree(kept, ignore_errors=True)
             source.write_bytes(older(drawn(20, 1)))
@@ -1472,25 +1636,23 @@ class Replaced(Tree):
             shutil.copytree(self.out, kept)
             stand = [[(told := path.stat()).st_ino, told.st_mtime_ns] for path in (out, Path(f"{out}.notes"))]
             before = tree_of(self.out)
-            if is_linked:
-                os.link(out, self.out / ".x.dwg.0.part")
             old = [path.rename(self.folder / path.name) for path in (out, Path(f"{out}.notes"))] if not is_placed else []
             source.write_bytes(older(drawn(21, 1)))
             self.grown(1, source)
             after, lines = tree_of(self.out), made.read_log(self.out / LOG)
             # (it ended before LOG had that it stands, and perhaps before it stood)
             lines = [line for line in lines if not (line.get("made") or {}).get("placed")]
-            # (who is killed before the link has touched nothing, and after it notes are aside)
-            for path in old[: 1 if is_linked else 2]:
+            # (notes are aside before names are exchanged, and the old output is untouched until then)
+            for path in old[: 1 if is_aside else 2]:
                 path.rename(self.out / path.name)
-            lines[-1]["made"].update(stood=stand, at_ns=lines[-1]["made"]["at_ns"] if is_linked else time.time_ns() + 10**8)
+            lines[-1]["made"].update(stood=stand, at_ns=time.time_ns() + 10**8)
             (self.out / LOG).write_bytes(made.log_of(lines))
             if is_put_back:
                 for path in (out, Path(f"{out}.notes")):
                     path.unlink(missing_ok=True)
                     (kept / path.name).rename(path)
             (row,) = self.grown(73 if is_put_back else 1, source)
-            self.assertEqual(row["outcome"], "refused" if is_put_back else "recovered", (is_placed, is_linked, is_put_back))
+            self.assertEqual(row["outcome"], "refused" if is_put_back else "recovered", (is_placed, is_aside, is_put_back))
             self.assertEqual({name: tree_of(self.out)[name] for name in before}, before if is_put_back else {name: after[name] for name in before})
 
     def test_an_output_that_was_put_back_where_nothing_stood_stays(self) -> None:

@@ -280,7 +280,7 @@ os.unlink = kept
 
     def test_without_such_a_rename_either(self) -> None:
         out = self.folder / "out"
-        with unittest.mock.patch.object(os, "link", side_effect=PermissionError(1, "Operation not permitted")), unittest.mock.patch("dwgtools.outputs.renamed_to_new", return_value=False):
+        with unittest.mock.patch.object(os, "link", side_effect=PermissionError(1, "Operation not permitted")), unittest.mock.patch("dwgtools.outputs.renamed", return_value=False):
             write_whole(str(out), b"one")
             with self.assertRaises(FileExistsError):
                 write_whole(str(out), b"two")
@@ -296,7 +296,12 @@ os.unlink = kept
                     said = [str(TOOLS / name), "--program", str(moving), *map(str, words(path, out)), *force]
                     ran = subprocess.run(said, capture_output=True, check=False, cwd=place)
                     found = sorted(os.listdir(self.folder / "moved"))
-                    self.assertEqual((ran.returncode, found), (0, ["out", "out.notes"] if name == "dwg-recover" else ["out"]), (name, force, ran.stderr))
+                    # (dwg-recover says where OUT is)
+                    status = 5 if name == "dwg-recover" and place is None else 0
+                    self.assertEqual((ran.returncode, found), (status, ["out", "out.notes"] if name == "dwg-recover" else ["out"]), (name, force, ran.stderr))
+                    if status:
+                        said_so = f"dwg-recover: {out.parent} was moved or replaced meanwhile, and {out} went with it\n"
+                        self.assertEqual((ran.stdout, ran.stderr.decode()), (b"", said_so))
                     shutil.rmtree(self.folder / "moved")
 
     def test_an_output_is_where_links_lead_to_and_nothing_is_left_elsewhere(self) -> None:
