@@ -479,7 +479,13 @@ class Log:
     def take_others(self) -> None:
         """Has LOG take the other contents, which are told now."""
         for name, row in self._withheld:
-            self.add_line(name, row)
+            if self.add_line(name, row):
+                self._take_new(name, row)
+
+    def _take_new(self, name: str, row: Row) -> None:
+        """Takes note of what LOG has now by a name that it had nothing by."""
+        if name not in self._before:
+            self._new[name] = row
 
     def _has_link(self, path: str, name: str) -> bool:
         """Whether LOG has it that a path leads to a file, where it does so by a link."""
@@ -557,14 +563,14 @@ class Log:
         is_there = is_there and self._latest[absolute] == key and (row.verdict == "changed" or self._has_link(row.path, absolute))
         if is_other:
             self._withheld.append((absolute, row))
-            is_there = True
-        elif not is_there and not (row.verdict == "unreadable" and self._unreadable.get(absolute) == row.detail):
+            return row
+        if not is_there and not (row.verdict == "unreadable" and self._unreadable.get(absolute) == row.detail):
             is_there = self.add_line(absolute, row)
             if row.bytes is not None:
                 self._latest[absolute] = key
         # (what LOG doesn't have takes the place of nothing)
-        if is_there and absolute not in self._before:
-            self._new[absolute] = row
+        if is_there:
+            self._take_new(absolute, row)
         return row
 
     def as_changed(self, key: Key, row: Row) -> Optional[Row]:

@@ -26,12 +26,12 @@ _unplaced: Dict[Tuple[int, str], str] = {}
 TRIES = 9
 
 # The files that are read, by what they are, wherever they are moved meanwhile: none is replaced.
-_read: Set[Tuple[int, int]] = set()
+FILES_READ: Set[Tuple[int, int]] = set()
 
 
 def take_read(told: os.stat_result) -> None:
     """Takes note of a file that is read."""
-    _read.add((told.st_dev, told.st_ino))
+    FILES_READ.add((told.st_dev, told.st_ino))
 
 
 def remove_unplaced() -> None:
@@ -147,7 +147,7 @@ class Spot:
             raise FileNotFoundError(errno.ENOENT, "No such file or directory", self.path)
         if not stat.S_ISREG(there.st_mode):
             raise FileExistsError(errno.EEXIST, "File exists", self.path)
-        if (there.st_dev, there.st_ino) in _read:
+        if (there.st_dev, there.st_ino) in FILES_READ:
             raise ToolError(f"{one_line(self.path)} is the input itself; name another output", Exit.EXISTS)
         if self.judged is not None and not is_as_judged(there, self.judged):
             raise ToolError(f"{one_line(self.path)} was changed or replaced meanwhile", Exit.EXISTS)
@@ -368,6 +368,12 @@ class WholeFile(Spot):
         finally:
             os.close(handle)
 
+    def refuse_moved(self, what: str) -> None:
+        """Refuses a folder that somebody moved or replaced meanwhile."""
+        if not self.is_in_place():
+            folder = one_line(os.path.dirname(self.path) or os.curdir)
+            raise ToolError(f"{folder} was moved or replaced meanwhile, and {what}", Status.WRITE_FAULT)
+
     def _remove_temporary(self) -> None:
         """Removes the file by the name that it was begun by; what somebody else gave that name stays, and is told."""
         if self.has(self._temporary) and not self.is_own(self.there(self._temporary)):
@@ -484,7 +490,10 @@ def output(path: Optional[str], force: bool) -> Iterator[IO[bytes]]:
         with WholeFile(path, force) as whole:
             yield whole.file
             whole.finish()
+            if whole.replaced():
+                whole.refuse_moved("what is in it stays")
             whole.place()
+            whole.refuse_moved(f"{one_line(path)} went with it")
     except FileExistsError:
         raise ToolError(f"{output_name(path)} is there already", Exit.EXISTS) from None
     except BrokenPipeError:

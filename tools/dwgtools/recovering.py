@@ -53,21 +53,14 @@ def recovered(program: Program, source: Input, options: argparse.Namespace, writ
         raise ToolError(f"{what}: {fault.strerror}", Status.WRITE_FAULT) from None
 
 
-def refuse_moved(whole: WholeFile, what: str) -> None:
-    """Refuses a folder that somebody moved or replaced meanwhile."""
-    if not whole.is_in_place():
-        folder = one_line(os.path.dirname(whole.path) or os.curdir)
-        raise ToolError(f"{folder} was moved or replaced meanwhile, and {what}", Status.WRITE_FAULT)
-
-
 def place_in_folder(whole: WholeFile, notes: WholeFile, written: Written) -> None:
     """Gives an output and its notes their names; what they would replace stays where its folder was moved before, and they go with one that is moved."""
     with alone_beside(whole):
         if whole.replaced() or notes.replaced():
-            refuse_moved(whole, "what is in it stays")
+            whole.refuse_moved("what is in it stays")
         place_both(whole, notes, written)
     written.stands = whole.is_in_place()
-    refuse_moved(whole, f"{one_line(whole.path)} went with it")
+    whole.refuse_moved(f"{one_line(whole.path)} went with it")
 
 
 def run_recover(program: Program, source: Input, out: IO[bytes], notes: IO[bytes], options: argparse.Namespace) -> Tuple[Recovery, ReadAs]:

@@ -24,7 +24,7 @@ import test_limits
 import test_safety
 from made import TOOLS, flipped, layout, made as drawn, needs_program, program_that, tool
 
-from dwgtools import searching, spools, walking
+from dwgtools import outputs, searching, spools, walking
 from dwgtools.previews import bitmap_file
 from dwgtools.program import Program
 from dwgtools.statuses import ToolError
@@ -37,6 +37,8 @@ INFO = made.module(TOOLS / "dwg-info", "dwg_info")
 def answer(*words: object) -> Tuple[int, bytes, str]:
     """Status, output and messages of the tool, run in this process, where a run costs less."""
     out, said = io.TextIOWrapper(io.BytesIO(), encoding="utf-8"), io.StringIO()
+    # (a run before this one may have read what is an output now)
+    outputs.FILES_READ.clear()
     with unittest.mock.patch.multiple(sys, argv=["dwg-info", *map(os.fspath, words)], stdout=out, stderr=said):  # type: ignore[arg-type]
         with unittest.mock.patch.object(INFO, "ready_program", lambda _: Program(made.PROGRAM)):
             try:

@@ -260,7 +260,8 @@ class Liars(Checked):
         """It has the pipes of the answer open still."""
         made.needs_program()
         left = self.folder / "left"
-        self.addCleanup(lambda: [os.kill(int(number), signal.SIGKILL) for number in left.read_text().split()])
+        # (what was left of `recover` is ended)
+        self.addCleanup(lambda: subprocess.run(["kill", "-KILL", *left.read_text().split()], check=False, stderr=subprocess.DEVNULL))
         wrapper = program_that(self.folder, "wrapper", [f'sleep 600 & echo $! >>"{left}"', 'exec "$REAL" "$@"'])
         begun = time.monotonic()
         for index in range(checkers.MANY):
@@ -1016,10 +1017,11 @@ def counted(call):
     return killing
 for name in ("rename", "replace", "link", "unlink", "fsync"):
     setattr(os, name, counted(getattr(os, name)))
+outputs.renamed = counted(outputs.renamed)
 """
 
 
-# Lets renames fail by their turn, and no links be made where there are none.
+# Lets what gives names fail by its turn; and where names can't be exchanged, no links are made either.
 FAILING = """
 import os
 turn = [0]
@@ -1030,12 +1032,12 @@ def counted(call):
             raise OSError(5, "Input/output error")
         return call(*words, **more)
     return failing
-for name in ("rename", "replace"):
-    setattr(os, name, counted(getattr(os, name)))
 def unlinked(*_, **__):
     raise OSError(1, "Operation not permitted")
-if not {has_links}:
-    os.link = unlinked
+for name in ("rename", "replace"):
+    setattr(os, name, counted(getattr(os, name)))
+os.link = counted(os.link) if {exchanges} else unlinked
+outputs.renamed = counted(outputs.renamed) if {exchanges} else lambda *_: False
 """
 
 
@@ -1091,17 +1093,18 @@ class Pairs(common.InFolder):
         old, new = self.pairs
         part = rf"{re.escape(str(self.folder))}/to/\.out[^ ;]*\.part"
         alone = (new[0], None)
-        cases = {(True, (3,)): old, (True, (3, 4)): alone, (False, (3,)): alone, (False, (2,)): old, (False, (2, 3)): (old[0], None)}
-        for (has_links, turns), standing in cases.items():
-            with self.subTest(has_links=has_links, turns=turns):
+        # (notes take their name by a link, or by a rename)
+        cases = {(True, (3, 4)): old, (True, (3, 4, 5)): alone, (False, (3,)): alone, (False, (2,)): old, (False, (2, 3)): (old[0], None)}
+        for (exchanges, turns), standing in cases.items():
+            with self.subTest(exchanges=exchanges, turns=turns):
                 shutil.rmtree(self.folder / "to")
                 (self.folder / "to").mkdir()
                 self.out.write_bytes(old[0])
                 self.notes.write_bytes(old[1])
-                ran = self.recover(FAILING.format(turns=turns, has_links=has_links), self.sources[1], "--force")
+                ran = self.recover(FAILING.format(turns=turns, exchanges=exchanges), self.sources[1], "--force")
                 self.assertEqual((ran.returncode, ran.stdout, self.standing()), (5, b"", standing), ran.stderr)
                 there = f"; {self.out} is there, the new one, without its notes" if standing[0] == new[0] else ""
-                drawing_left = f"; what was {self.out} before is in (?P<out>{part})" if there and has_links else ""
+                drawing_left = f"; what was {self.out} before is in (?P<out>{part})" if there and exchanges else ""
                 notes_left = f"; what was {self.notes} before is in (?P<notes>{part})" if standing[1] is None else ""
                 told = f"dwg-recover: {self.out}: Input/output error{there}{drawing_left}{notes_left}\n"
                 said = re.fullmatch(told, ran.stderr.decode())

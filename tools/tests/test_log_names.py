@@ -316,6 +316,24 @@ class Names(common.InFolder):
             self.assertEqual(states, {"d/a.dwg": "changed", "d/c.dwg": "same", "d/new.dwg": "same"})
         self.assertEqual(tool("dwg-check", "--add", "--resume", self.log, volume).returncode, 64)
 
+    def test_what_is_not_taken_takes_the_place_of_nothing(self) -> None:
+        """A folder that was moved to where a link led elsewhere, of which LOG takes no other content."""
+        first = self.volume("d/v1", "a.dwg")
+        new = self.volume("d/new", "b.dwg")
+        (new / "b.dwg").rename(new / "a.dwg")
+        volume = first.parent
+        (volume / "cur").symlink_to("v1")
+        self.assertEqual(self.keep("--follow", volume), [])
+        (volume / "cur").unlink()
+        new.rename(volume / "cur")
+        other = "1 of its files have another content now, which it {}; the first is d/cur/a.dwg".format
+        gone = "1 of its files are gone, which it keeps (--forget has it forget them); the first is d/new/a.dwg"
+        self.assertEqual(self.keep("--follow", "--add", volume), [other("doesn't take"), gone])
+        self.assertEqual(self.compare(volume)[1]["d/new/a.dwg"], "missing")
+        moved = "1 of its files have other names now; the first is d/new/a.dwg"
+        self.assertEqual(self.keep("--follow", volume), [other("takes"), moved])
+        self.assertEqual(self.compare(volume)[0], 0)
+
     def test_a_file_that_could_not_be_read_and_is_gone(self) -> None:
         volume = self.volume("d", "a.dwg")
         os.mkfifo(volume / "odd.dwg")

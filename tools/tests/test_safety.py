@@ -296,13 +296,20 @@ os.unlink = kept
                     said = [str(TOOLS / name), "--program", str(moving), *map(str, words(path, out)), *force]
                     ran = subprocess.run(said, capture_output=True, check=False, cwd=place)
                     found = sorted(os.listdir(self.folder / "moved"))
-                    # (dwg-recover says where OUT is)
-                    status = 5 if name == "dwg-recover" and place is None else 0
+                    # (what has a name of its folder alone is where that is)
+                    status = 5 if place is None else 0
                     self.assertEqual((ran.returncode, found), (status, ["out", "out.notes"] if name == "dwg-recover" else ["out"]), (name, force, ran.stderr))
                     if status:
-                        said_so = f"dwg-recover: {out.parent} was moved or replaced meanwhile, and {out} went with it\n"
+                        said_so = f"{name}: {out.parent} was moved or replaced meanwhile, and {out} went with it\n"
                         self.assertEqual((ran.stdout, ran.stderr.decode()), (b"", said_so))
                     shutil.rmtree(self.folder / "moved")
+            # What stands in a folder that is set aside isn't replaced.
+            if name != "dwg-recover":
+                (self.folder / "new").mkdir()
+                self.file("new/out", b"older")
+                ran = tool(name, "--program", moving, *words(path, self.folder / "new" / "out"), "--force")
+                self.assertEqual((ran.returncode, (self.folder / "moved" / "out").read_bytes()), (5, b"older"), ran.stderr)
+                shutil.rmtree(self.folder / "moved")
 
     def test_an_output_is_where_links_lead_to_and_nothing_is_left_elsewhere(self) -> None:
         path = self.file("a.dwg", drawn(3, 1))
