@@ -577,8 +577,8 @@ class Log:
         """The line of a file as `changed`, where its first content of this size and time was another."""
         old = self._known.get(key)
         first = self._first.get(key, "" if old and old.verdict == "changed" else row.sha256)
-        # (of a file that has only holes now there is no SHA-256)
-        if not old or not (row.sha256 or key in self._first) or row.sha256 == first:
+        # (of a file that has only holes now there is no SHA-256; of what can't be read nothing is known)
+        if not old or row.bytes is None or not (row.sha256 or key in self._first) or row.sha256 == first:
             return None
         return replace(row, verdict="changed", detail=f"{row.verdict}: {row.detail}" if row.detail else row.verdict)
 

@@ -2,6 +2,8 @@
 
 from __future__ import annotations
 
+import hashlib
+import json
 import os
 import pathlib
 import resource
@@ -257,28 +259,28 @@ class Install(unittest.TestCase):
         modes = {stat.S_IMODE(path.stat().st_mode) for path in [self.top, *self.top.rglob("*")]}
         self.assertEqual(modes, {0o755, 0o644})
 
-    def test_what_an_older_install_brought(self) -> None:
-        """One that kept no MANIFEST is known by the file COMMIT; and what isn't installed any more goes."""
+    def test_an_install_without_manifest_is_left_as_it_is(self) -> None:
+        """What it brought nobody knows."""
         self.installed()
         (self.top / "lib/dwg/MANIFEST").unlink()
-        gone = self.top / "lib/dwg/tools/dwgtools/older.py"
-        gone.write_bytes(b"older")
-        self.program.write_bytes(b"new")
-        self.installed()
-        self.assertEqual((gone.exists(), (self.top / "bin/dwg").read_bytes()), (False, b"new"))
-        (self.top / "lib/dwg/MANIFEST").unlink()
-        self.assertEqual(self.goes("uninstall").returncode, 0)
-        self.assertEqual(files(self.top), {})
+        (self.top / "bin/dwg").write_bytes(b"own")
+        before = files(self.top)
+        for goal in ("install", "uninstall"):
+            ran = self.goes(goal)
+            self.assertEqual((ran.returncode, files(self.top)), (2, before))
+            self.assertIn(b"lib/dwg is of an install without MANIFEST; make uninstall in a checkout of its COMMIT removes it", ran.stderr)
 
-    def test_what_an_install_without_a_folder_of_modules_brought(self) -> None:
+    def test_what_is_not_installed_any_more_goes(self) -> None:
         self.installed()
-        (self.top / "lib/dwg/MANIFEST").unlink()
-        tools = self.top / "lib/dwg/tools"
-        for module in (tools / "dwgtools").iterdir():
-            module.rename(tools / module.name)
+        manifest = self.top / "lib/dwg/MANIFEST"
+        told = json.loads(manifest.read_text())
+        modules = self.top / "lib/dwg/tools/dwgtools"
+        for name in ("older.py", "own.py"):
+            (modules / name).write_bytes(b"older")
+            told["brought"][f"lib/dwg/tools/dwgtools/{name}"] = told["brought"]["lib/dwg/COMMIT"] if name == "own.py" else [hashlib.sha256(b"older").hexdigest()]
+        manifest.write_text(json.dumps(told))
         self.installed()
-        self.assertEqual([*tools.glob("*.py")], [])
-        self.assertEqual((self.goes("uninstall").returncode, files(self.top)), (0, {}))
+        self.assertEqual(((modules / "older.py").exists(), (modules / "own.py").exists()), (False, True))
 
     def test_a_link_to_another_installation(self) -> None:
         """Nothing that is there is replaced or removed, whether it is the tools or all of lib/dwg."""
