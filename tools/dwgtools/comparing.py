@@ -224,7 +224,9 @@ def planned(found: Iterable[Named], kept: Kept) -> Tuple[List[Named], List[Row]]
 def lost_names(kept: Kept) -> List[Row]:
     """The lines of names at which nothing is, though LOG has them: of links, and of files of which it has no content."""
     had = ((link, name, kept.had(name)) for link, name in kept.links.items())
-    links = (replace(row, path=link) for link, name, row in had if row and is_away(link) and not (is_spelling(link, name) and is_away(name)))
+    # (a file that LOG has has a line of its own, whatever its spellings are)
+    lost = ((link, row) for link, name, row in had if row and is_away(link) and not (name in kept and is_away(name) and is_spelling(link, name)))
+    links = (replace(row, path=link) for link, row in lost)
     files = (kept.named(name) for name in kept.without if is_gone(name))
     return [Compared(row.path, "missing", kept=row) for row in (*links, *files)]
 

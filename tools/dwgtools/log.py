@@ -128,6 +128,15 @@ def nearest_folder(path: str) -> Optional[str]:
     return folder
 
 
+def has_file(folder: str) -> bool:
+    """Whether a folder that can be read has a regular file, whatever that is called."""
+    try:
+        with os.scandir(folder) as entries:
+            return any(entry.is_file(follow_symlinks=False) for entry in entries)
+    except OSError:
+        return False
+
+
 class Places:
     """Where the folders of the names of LOG are now, by which a file is known again: a folder may have become a link since LOG has it."""
 

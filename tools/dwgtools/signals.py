@@ -85,15 +85,12 @@ def _end(number: int, _: object) -> None:
 
 def _once_more(dropped: "sys.UnraisableHookArgs") -> None:
     """Has what a signal ends the tool by end it a moment later, where Python dropped it, as it does at the end of an object."""
-    if not isinstance(dropped.exc_value, (KeyboardInterrupt, Ended)):
+    fault = dropped.exc_value
+    if not isinstance(fault, (KeyboardInterrupt, Ended)):
         sys.__unraisablehook__(dropped)
         return
-    ended: BaseException = dropped.exc_value
-
-    def end(_number: int, _frame: object) -> None:
-        raise ended
-
-    signal.signal(signal.SIGALRM, end)
+    number = fault.status - 128 if isinstance(fault, Ended) else signal.SIGINT
+    signal.signal(signal.SIGALRM, lambda *_: _end(number, None))
     signal.setitimer(signal.ITIMER_REAL, 0.001)
 
 

@@ -171,9 +171,13 @@ class TreeLog(Log):
         """Keeps what is known of a content, and what was written of it and in the place of what, where LOG doesn't have that."""
         # (a content that this run has met is added again where it stands twice)
         is_known = line.sha256 is None or line.verdict == "failed" or self.of_content(line.sha256) is not None
-        if is_known and (line.made is None or self._last.get(line.made.output) == line.made):
+        if is_known and (line.made is None or self._has(line.made, line.source)):
             return
         self.keep(line, stood)
+
+    def _has(self, made: Made, source: str) -> bool:
+        """Whether LOG has it that this was written last, and of this file: one of another folder may have the same content."""
+        return self._last.get(made.output) == made and self._source_of.get(made.output) == source
 
     def keep(self, line: Line, stood: Optional[Tuple[State, State]]) -> None:
         """Keeps what is known of a content, and what is about to be placed of it, in the place of what."""

@@ -287,8 +287,26 @@ class Names(common.InFolder):
         kept = [line for line in self.keep("--follow", "--forget", archive) if "are gone" in line]
         self.assertEqual((len(kept), all(said in line for line in kept), any("no more" in line for line in kept)), (1, True, False), kept)
         self.assertEqual([name for name, told in self.compare()[1].items() if told == "missing"].count("archive/vol/b.dwg"), 1)
-        # By its name it is forgotten.
+        # By its name it is forgotten; and so it is where another file stands beside it.
+        before = self.log.read_bytes()
         self.assertIn("and it has them no more", self.keep("--follow", "--forget", archive, inner / "b.dwg")[0])
+        self.log.write_bytes(before)
+        self.file("archive/vol/readme.txt", b"")
+        self.assertEqual(self.keep("--follow", "--forget", archive)[0], "1 of its files are gone, and it has them no more; the first is archive/vol/b.dwg")
+
+    def test_a_link_that_was_another_spelling_of_what_was_forgotten(self) -> None:
+        """It is missing by itself, where LOG has that file no more."""
+        first, second = self.volume("first", "a.dwg", "b.dwg"), self.volume("second", "c.dwg")
+        (self.folder / "current").symlink_to(first)
+        self.assertEqual(self.keep(self.folder / "current"), [])
+        (self.folder / "current").unlink()
+        (self.folder / "current").symlink_to(second)
+        (first / "a.dwg").unlink()
+        gone = "1 of its files are gone, and it has them no more; the first is first/a.dwg"
+        self.assertEqual(self.keep("--forget", first), [gone])
+        (self.folder / "current").unlink()
+        (self.folder / "current").symlink_to(first)
+        self.assertEqual(self.compare()[1].get("current/a.dwg"), "missing")
 
     def test_nothing_is_forgotten_that_cannot_be_told(self) -> None:
         volume = self.volume("d", "a.dwg", "b.dwg", "c.dwg")

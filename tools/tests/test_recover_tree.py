@@ -593,6 +593,22 @@ class Refusals(Tree):
         (self.plans / "b.dwg").write_bytes(self.data)
         self.assertEqual([row["outcome"] for row in self.grown(73, self.plans)], ["recovered", "refused"])
 
+    def test_an_output_that_was_written_anew_of_another_folder_is_of_that(self) -> None:
+        """Though it has the content that one of the first folder had."""
+        first, second = self.folder / "a" / "p", self.folder / "b" / "p"
+        for folder in (first, second):
+            folder.mkdir(parents=True)
+            (folder / "x.dwg").write_bytes(drawn(8, 1))
+        out = self.out / "p" / "x.dwg"
+        self.grown(0, "--whole", "copy", first)
+        out.unlink()
+        self.grown(0, "--whole", "copy", second)
+        self.assertEqual(self.logged()[-1]["absolute"], str(second / "x.dwg"))
+        (second / "x.dwg").unlink()
+        (first / "x.dwg").write_bytes(drawn(8, 2))
+        self.assertEqual([row["outcome"] for row in self.grown(73, "--whole", "copy", first)], ["refused"])
+        self.assertEqual(out.read_bytes(), drawn(8, 1))
+
     def test_outputs_of_another_folder_of_the_same_name_stay(self) -> None:
         """What a run wrote of one file is no output of another that has the same name below OUT."""
         for year, data in (("2019", drawn(5, 5)), ("2020", self.data)):
