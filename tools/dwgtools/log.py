@@ -552,15 +552,15 @@ class Log:
         if before is not None and before != absolute:
             return Row(row.path, "failed", LED_ELSEWHERE)
         if row.verdict == "unreadable" and row.detail in (GONE, NO_FOLDER) and row.path:
+            spelled = spelled_name(row.path)
+            self._named |= {absolute, spelled} if is_named else set()
             if self._before.has(absolute) or absolute in self._links:
                 # (LOG forgets nothing by itself)
                 self._missed.add(absolute)
-                if is_named:
-                    self._named.add(absolute)
                 return row
             # (it may have been a folder, and what a link led to is none of the words)
             if is_gone(row.path):
-                self._missed.add(spelled_name(row.path))
+                self._missed.add(spelled)
         key = (absolute, row.bytes or 0, row.mtime_ns or 0)
         old, is_other = self._known.get(key), False
         changed = self.as_changed(key, row)

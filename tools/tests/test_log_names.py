@@ -307,6 +307,11 @@ class Names(common.InFolder):
         (self.folder / "current").unlink()
         (self.folder / "current").symlink_to(first)
         self.assertEqual(self.compare()[1].get("current/a.dwg"), "missing")
+        # By its name it is forgotten, wherever the link leads.
+        for target in (second, first):
+            (self.folder / "current").unlink()
+            (self.folder / "current").symlink_to(target)
+            self.assertEqual(self.keep("--forget", "--null", "-", given=os.fsencode(self.folder / "current/a.dwg") + b"\0")[:1], ["1 of its files are gone, and it has them no more; the first is current/a.dwg"][: target == second])
 
     def test_nothing_is_forgotten_that_cannot_be_told(self) -> None:
         volume = self.volume("d", "a.dwg", "b.dwg", "c.dwg")
