@@ -546,7 +546,7 @@ class Signals(Checked):
         path = self.file("a.dwg", made.made(3))
         place = self.folder / "bin"
         place.mkdir()
-        for name in ("sh", "env", "head", "tr"):
+        for name in ("sh", "env"):
             (place / name).symlink_to(str(shutil.which(name)))
         (place / "python3").write_text("#!/bin/sh\necho no memory >&2; exit 1\n")
         for mode, status in ((0o644, {126, 127}), (0o755, {1})):
@@ -555,6 +555,13 @@ class Signals(Checked):
                 with open(path, "ab") as error:
                     ran = subprocess.run([str(TOOLS / name), str(path)], stdout=subprocess.PIPE, stderr=error, check=False, env={"PATH": str(place)})
                 self.assertEqual((ran.returncode in status, ran.stdout, path.read_bytes()), (True, b"", made.made(3)), (name, ran.returncode))
+
+    def test_what_is_open_stays_open(self) -> None:
+        """By whatever number, also where standard error is a file."""
+        with open(self.file("a.dwg", made.made(3)), "rb") as source, open(self.folder / "said", "wb") as error:
+            words = ["sh", "-c", 'exec 9<&0 </dev/null; exec "$0" /dev/fd/9', str(TOOLS / "dwg-json")]
+            ran = subprocess.run(words, stdin=source, stdout=subprocess.PIPE, stderr=error, check=False, env={**os.environ, "DWG": made.PROGRAM})
+        self.assertEqual((ran.returncode, (self.folder / "said").read_bytes()), (0, b""))
 
     def test_a_second_signal_is_no_fault_of_python(self) -> None:
         # Of one that is ignored while it waits, Python tells by a traceback. One that was ignored from the begin stays so.

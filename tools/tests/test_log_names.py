@@ -294,6 +294,16 @@ class Names(common.InFolder):
         self.file("archive/vol/readme.txt", b"")
         self.assertEqual(self.keep("--follow", "--forget", archive)[0], "1 of its files are gone, and it has them no more; the first is archive/vol/b.dwg")
 
+    def test_a_file_in_whose_place_a_folder_stands_is_forgotten_by_its_name(self) -> None:
+        volume = self.volume("d", "a.dwg", "b.dwg")
+        self.assertEqual(self.keep(volume), [])
+        (volume / "a.dwg").unlink()
+        (volume / "a.dwg").mkdir()
+        self.assertEqual(self.compare()[1]["d/a.dwg"], "missing")
+        gone = "1 of its files are gone, and it has them no more; the first is d/a.dwg"
+        self.assertEqual(self.keep("--forget", "--null", "-", given=os.fsencode(volume / "a.dwg") + b"\0")[:1], [gone])
+        self.assertEqual(self.compare(), (0, {"d/b.dwg": "same"}))
+
     def test_a_link_that_was_another_spelling_of_what_was_forgotten(self) -> None:
         """It is missing by itself, where LOG has that file no more."""
         first, second = self.volume("first", "a.dwg", "b.dwg"), self.volume("second", "c.dwg")
