@@ -85,6 +85,10 @@ class Kept(Contents):
         name = self.links.get(spelled_name(path))
         return None if name is None or self.had(name) is None or name == self.name_of(path) else name
 
+    def is_loose(self, link: str) -> bool:
+        """Whether a link leads to another file than it did, or LOG has the one to which it led no more, as where that was moved."""
+        return self.led_to(link) is not None or self.links[link] not in self and self.links[link] in self.forgotten
+
     def leads_to_gone(self, path: str, name: str) -> bool:
         """Whether a path leads by a link to a file of LOG that isn't there, which LOG has by another name than the link's."""
         return name in self and link_of(path, name) not in (None, spelled_name(self[name].path)) and is_away(name)
@@ -214,7 +218,8 @@ def planned(found: Iterable[Named], kept: Kept) -> Tuple[List[Named], List[Row]]
         if own not in seen and not (name in kept and is_away(one.path)):
             seen.add(own)
             plan.append(one)
-    plan += [Named(link) for link in sorted(kept.links.keys() - seen, key=os.fsencode) if kept.led_to(link) is not None and not is_away(link)]
+    shown = {spelled_name(one.path) for one in plan} if kept.links else set()
+    plan += [Named(link) for link in sorted(kept.links.keys() - seen - shown, key=os.fsencode) if kept.is_loose(link) and not is_away(link)]
     # (a folder that couldn't be read has a line too)
     rest = sorted({*kept, *(name for name in kept.without if not os.path.isdir(name))} - seen, key=os.fsencode)
     gone = {name for name in rest if (is_away if name in kept else is_gone)(name)}

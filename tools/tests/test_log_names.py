@@ -252,6 +252,9 @@ class Names(common.InFolder):
         self.assertEqual(self.keep("--follow", volume), [])
         (volume / "a.dwg").rename(volume / "c.dwg")
         self.assertEqual(self.keep("--follow", volume), ["1 of its files have other names now; the first is d/a.dwg"])
+        for words in ([], [volume], ["--follow", volume]):
+            status, told = self.compare(*words)
+            self.assertEqual((status, told["d/l.dwg"], told["d/c.dwg"]), (68, "unreadable No such file or directory", "same"), words)
         for target, said in (("c.dwg", "same"), ("b.dwg", f"changed it led to {volume}/a.dwg".replace(f"{self.folder}/", ""))):
             (volume / "l.dwg").unlink()
             (volume / "l.dwg").symlink_to(target)
