@@ -515,7 +515,8 @@ class Log:
         """The whole names of files that aren't there any more, and of links that aren't, which the words named or which stand below these, in their order;
         and of files that aren't there any more to which such links led."""
         tops = {name for word in filter(None, words) for name in (absolute_name(word), spelled_name(word))} | self._missed
-        names = {*self._before, *self._before.without, *self._links}
+        links = {link for link, name in self._links.items() if self._before.had(name) or self._before.has(name)}
+        names = {*self._before, *self._before.without, *links}
         # (many files stand in one folder)
         folders = {folder for folder in {os.path.dirname(name) for name in names} if is_among(folder, tops) or is_among(absolute_name(folder), tops)}
         found = {name for name in names if (name in tops or os.path.dirname(name) in folders) and self._is_away(name)}

@@ -180,13 +180,14 @@ def names_from(stream: IO[bytes], end: bytes) -> Iterator[str]:
         yield os.fsdecode(rest)
 
 
-def all_named(words: Iterable[str], walk: Walk, end: bytes, folders: List[str]) -> Iterator[Named]:
-    """The files that the words name, and into a list the folders."""
+def all_named(words: Iterable[str], walk: Walk, end: bytes, given: Optional[List[str]]) -> Iterator[Named]:
+    """The files that the words name, and into a list, where there is one, what each word is, or standard input in its place gives."""
     seen: Set[Tuple[int, int]] = set()
     for word in words:
         for path in names_from(sys.stdin.buffer, end) if word == "-" else [word]:
+            if given is not None:
+                given.append(path)
             if os.path.isdir(path):
-                folders.append(path)
                 yield from walked(path, walk, seen)
             else:
                 yield Word(path)
@@ -295,8 +296,9 @@ def can_come(options: argparse.Namespace) -> bool:
 def files_of(options: argparse.Namespace) -> Union[Coming, List[Named]]:
     """The files that the words name. Refused is one that the table or messages would be added to, and so are LOG and the names that are read."""
     # What is new when this begins isn't checked.
-    options.folders = []
-    found = without_new(all_named(options.files, walk_of(options), b"\0" if options.null else b"\n", options.folders), outputs(is_new=True))
+    # (of names that come without end none is held)
+    options.given = None if can_come(options) else []
+    found = without_new(all_named(options.files, walk_of(options), b"\0" if options.null else b"\n", options.given), outputs(is_new=True))
     # (LOG and a file may be called by a hyphen, which isn't standard input then)
     streams = [*([] if options.log is None else [as_file(options.log)]), *(word for word in options.files if word == "-")]
     if can_come(options):
