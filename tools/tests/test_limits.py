@@ -451,7 +451,7 @@ def is_running(number: int) -> bool:
 
 def ended(number: int) -> bool:
     """Whether a process ends in a moment: a signal that is sent need not have come yet."""
-    end = time.monotonic() + 2
+    end = time.monotonic() + 10
     while is_running(number) and time.monotonic() < end:
         time.sleep(0.01)
     return not is_running(number)
@@ -467,7 +467,7 @@ class Signals(Checked):
             few = FEW_THREADS.format(count=0) if name == "dwg-check" else ""
             ran = otherwise(name, few + INTERRUPTED.format(begun=str(begun)), "--program", endless, *words)
             self.assertEqual((ran.returncode, ran.stderr), (130, b""), name)
-            self.assertFalse(is_running(int(begun.read_text())), name)
+            self.assertTrue(ended(int(begun.read_text())), name)
             # (nor is anything blocked for what was begun)
             if (self.folder / "blocked").read_bytes():
                 self.assertEqual(int((self.folder / "blocked").read_text().split()[1], 16), 0)
