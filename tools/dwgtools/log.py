@@ -117,15 +117,26 @@ def is_spelling(link: str, name: str) -> bool:
     return os.path.join(absolute_name(os.path.dirname(link)), os.path.basename(link)) == name
 
 
-def nearest_folder(path: str) -> Optional[str]:
-    """The folder that is there in which a file that is gone stood, or the nearest one that it stood in; None where a link is left that leads to none, as
-    to a volume that isn't mounted."""
-    folder = os.path.dirname(path)
-    while not os.path.isdir(folder):
-        if os.path.islink(folder) or folder == os.path.dirname(folder):
-            return None
-        folder = os.path.dirname(folder)
-    return folder
+def nearest_folders(folders: Iterable[str]) -> Dict[str, Optional[str]]:
+    """Of each folder in which a file stood that is gone that folder, where it is there, or the nearest one that it stood in; None where a link is left
+    that leads to none, as to a volume that isn't mounted. (Folders may stand in each other by thousands.)"""
+    found: Dict[str, Optional[str]] = {}
+    for folder in folders:
+        passed: List[str] = []
+        while folder not in found and not os.path.isdir(folder):
+            passed.append(folder)
+            if os.path.islink(folder) or folder == os.path.dirname(folder):
+                found[folder] = None
+            else:
+                folder = os.path.dirname(folder)
+        near = found.setdefault(folder, folder)
+        found.update(dict.fromkeys(passed, near))
+    return found
+
+
+def names_of_words(words: Iterable[str]) -> Set[str]:
+    """The whole names of words, each as it leads somewhere and as it is spelled."""
+    return {name for word in filter(None, words) for name in (absolute_name(word), spelled_name(word))}
 
 
 def has_file(folder: str) -> bool:
@@ -514,7 +525,7 @@ class Log:
     def gone(self, words: Iterable[str]) -> List[str]:
         """The whole names of files that aren't there any more, and of links that aren't, which the words named or which stand below these, in their order;
         and of files that aren't there any more to which such links led."""
-        tops = {name for word in filter(None, words) for name in (absolute_name(word), spelled_name(word))} | self._missed
+        tops = names_of_words(words) | self._missed
         links = {link for link, name in self._links.items() if self._before.had(name) or self._before.has(name)}
         names = {*self._before, *self._before.without, *links}
         # (many files stand in one folder)

@@ -26,12 +26,12 @@ _unplaced: Dict[Tuple[int, str], str] = {}
 TRIES = 9
 
 # The files that are read, by what they are, wherever they are moved meanwhile: none is replaced.
-FILES_READ: Set[Tuple[int, int]] = set()
+files_read: Set[Tuple[int, int]] = set()
 
 
 def take_read(told: os.stat_result) -> None:
     """Takes note of a file that is read."""
-    FILES_READ.add((told.st_dev, told.st_ino))
+    files_read.add((told.st_dev, told.st_ino))
 
 
 def remove_unplaced() -> None:
@@ -147,7 +147,7 @@ class Spot:
             raise FileNotFoundError(errno.ENOENT, "No such file or directory", self.path)
         if not stat.S_ISREG(there.st_mode):
             raise FileExistsError(errno.EEXIST, "File exists", self.path)
-        if (there.st_dev, there.st_ino) in FILES_READ:
+        if (there.st_dev, there.st_ino) in files_read:
             raise ToolError(f"{one_line(self.path)} is the input itself; name another output", Exit.EXISTS)
         if self.judged is not None and not is_as_judged(there, self.judged):
             raise ToolError(f"{one_line(self.path)} was changed or replaced meanwhile", Exit.EXISTS)

@@ -38,7 +38,7 @@ def answer(*words: object) -> Tuple[int, bytes, str]:
     """Status, output and messages of the tool, run in this process, where a run costs less."""
     out, said = io.TextIOWrapper(io.BytesIO(), encoding="utf-8"), io.StringIO()
     # (a run before this one may have read what is an output now)
-    outputs.FILES_READ.clear()
+    outputs.files_read.clear()
     with unittest.mock.patch.multiple(sys, argv=["dwg-info", *map(os.fspath, words)], stdout=out, stderr=said):  # type: ignore[arg-type]
         with unittest.mock.patch.object(INFO, "ready_program", lambda _: Program(made.PROGRAM)):
             try:
