@@ -48,11 +48,6 @@ def spelled(folder: str, path: str) -> str:
     return "/" + os.path.normpath(os.path.join(os.path.realpath(head + up), rest) if up else rest).lstrip("/")
 
 
-def by_folder(path: str) -> str:
-    """A name of which the folder is gone through."""
-    return os.path.join(os.path.realpath(os.path.dirname(path)), os.path.basename(path))
-
-
 def is_gone(path: str) -> bool:
     """Whether no file has a name, nor a link that leads nowhere. Of what the system says nothing nobody knows that."""
     try:
@@ -65,49 +60,30 @@ def is_gone(path: str) -> bool:
 
 @dataclass
 class Kept:
-    """What LOG has: the content of each file by its whole name, files without one, and where links led; what it had once; and by which names, sizes and
-    times it takes a file as it was."""
+    """What LOG has: the content of each file by its whole name, and files without one; and by which names, sizes and times it takes a file as it was."""
 
     contents: Dict[str, str] = field(default_factory=dict)
     without: Set[str] = field(default_factory=set)
-    links: Dict[str, str] = field(default_factory=dict)
-    had: Dict[str, str] = field(default_factory=dict)
-    ever: Set[str] = field(default_factory=set)
     known: Set[Tuple[str, int, int]] = field(default_factory=set)
     damaged: int = 0
 
     def take(self, told: Dict[str, Any]) -> None:
         """Takes a line."""
-        name, is_forgotten = told["absolute"], told.get("forgotten") is True
-        self.ever.add(name)
-        if is_forgotten:
+        name = told["absolute"]
+        if told.get("forgotten") is True:
             self.contents.pop(name, None)
             self.without.discard(name)
         elif told["sha256"] and told["verdict"] != "changed":
-            self.contents[name] = self.had[name] = told["sha256"]
+            self.contents[name] = told["sha256"]
             self.without.discard(name)
         elif name not in self.contents and told["detail"] not in NOTHING:
             self.without.add(name)
         if told["bytes"] is not None and told["mtime_ns"] is not None:
             self.known.add((name, told["bytes"], told["mtime_ns"]))
-        if is_forgotten or told["verdict"] not in ("unreadable", "changed"):
-            self.links.pop(name, None)
-            if "link" in told:
-                self.links[told["link"]] = name
 
-    def other_links(self) -> Dict[str, str]:
-        """The links, without other spellings of names of files."""
-        return {link: name for link, name in self.links.items() if by_folder(link) != name}
-
-    def name_of(self, path: str) -> str:
-        """The name by which LOG has the file of a whole name, though its folder may have become a link."""
-        led = {by_folder(name): name for name in sorted(self.contents, reverse=True)}
-        places = (path, by_folder(path), os.path.realpath(path))
-        return next((found for one in places for found in (one, led.get(one, "")) if found in self.contents), places[-1])
-
-    def content_by(self, path: str) -> Optional[str]:
-        """What LOG has of the file that a name leads to, or led to."""
-        return self.contents.get(path) or self.had.get(self.links.get(path, "")) or self.contents.get(self.name_of(path))
+    def names(self) -> Set[str]:
+        """All names of files."""
+        return {*self.contents, *self.without}
 
 
 def read_log(path: str) -> Kept:
@@ -124,8 +100,7 @@ def read_log(path: str) -> Kept:
 
 @dataclass
 class Case:
-    """A run, the whole names of its words, what LOG had before it and has after it, all files before and after it, and by which content each path was
-    taken by runs before it, with its name in LOG then."""
+    """A run, the whole names of its words, what LOG had before it and has after it, and all files before and after it."""
 
     ran: Ran
     tops: Set[str]
@@ -133,16 +108,18 @@ class Case:
     after: Kept
     files: Snapshot
     files_after: Snapshot
-    taken: Dict[str, Tuple[str, str]]
 
     def rows(self, *left_out: str) -> Iterator[Tuple[str, Dict[str, Any]]]:
         """The lines of the table that have a content, without those of some verdicts, by the whole name as it is spelled."""
         return ((spelled(self.ran.folder, row["path"]), row) for row in self.ran.rows if row["sha256"] and row["verdict"] not in left_out)
 
+    def is_below(self, name: str) -> bool:
+        """Whether the words name a file, or a folder that it stands in."""
+        return any(f"{name}/".startswith(top.rstrip("/") + "/") for top in self.tops)
+
     def lost(self) -> Set[str]:
         """The names that LOG has no more."""
-        before = {*self.before.contents, *self.before.without, *self.before.other_links()}
-        return before - {*self.after.contents, *self.after.without, *self.after.links}
+        return self.before.names() - self.after.names()
 
     def forgotten(self) -> List[str]:
         """Those of which the content has no new name."""
@@ -170,7 +147,7 @@ def has_right_status(case: Case) -> Iterator[str]:
 def says_truth(case: Case) -> Iterator[str]:
     """What a table says is the content of a file, unless LOG knows that by size and time."""
     for path, row in case.rows():
-        key = case.before.name_of(path), row["bytes"], row["mtime_ns"]
+        key = path, row["bytes"], row["mtime_ns"]
         if row["verdict"] != "missing" and row["sha256"] != digest(path) and ("--verify" in case.ran.words or key not in case.before.known):
             yield f"{path} has another content than the table says"
 
@@ -183,63 +160,64 @@ def tells_contents(case: Case) -> Iterator[str]:
         yield f"LOG has other contents of {others}, of which {case.ran.told('taken')} are told"
 
 
+def near_with_file(name: str) -> Optional[str]:
+    """The nearest folder of a name that is there; None where that has no file, in itself or deeper."""
+    near = os.path.dirname(name)
+    while not os.path.isdir(near) and not os.path.islink(near):
+        near = os.path.dirname(near)
+    paths = (os.path.join(folder, one) for folder, _, names in os.walk(near) for one in names)
+    return near if any(os.path.isfile(path) and not os.path.islink(path) for path in paths) else None
+
+
 def tells_lost(case: Case) -> Iterator[str]:
-    """LOG has a name no more only where that is told; without --forget, and in a folder that has no file, only where the file has another name now."""
+    """LOG has a name no more only where no file is there and that is told; without --forget, and in a folder that has no file, only where the file has
+    another name now. It is a name of the words in any case."""
     lost, told = sorted(case.lost()), case.ran.told("moved", "forgotten")
     if len(lost) > told or len(lost) < told and not case.ran.cut.kind:
         yield f"LOG has {lost} no more, of which {told} are told"
+    yield from (f"{name} is there, and LOG has it no more" for name in lost if not is_gone(name) or not case.is_below(name))
     for name in case.forgotten():
-        near = os.path.dirname(name)
-        while not os.path.isdir(near) and not os.path.islink(near):
-            near = os.path.dirname(near)
-        has_file = any(names for _, _, names in os.walk(near))
-        if "--forget" not in case.ran.words or not has_file and name not in case.tops:
+        near = near_with_file(name)
+        if "--forget" not in case.ran.words or (near is None or not case.is_below(near)) and name not in case.tops:
             yield f"LOG was not to forget {name}"
 
 
 def tells_others(case: Case) -> Iterator[str]:
-    """What has another content than LOG had by its name, or than was taken by its path, is told."""
-    others, told = set(), case.ran.told("taken", "left")
-    for path, row in case.rows("changed", "failed"):
-        name = case.before.name_of(path)
-        # (a name that LOG had once is that of a file of its own, whatever it leads to)
-        if (path == name or path not in case.before.ever) and case.before.contents.get(name, row["sha256"]) != row["sha256"]:
-            others.add(name)
-        if case.taken.get(path, (row["sha256"],))[0] != row["sha256"] and not told + case.ran.told("moved", "forgotten", "gone"):
-            yield f"{path} has another content than was taken by it, which isn't told"
-    if len(others) > told:
+    """What has another content than LOG had by its name is told, and no more than that."""
+    had = case.before.contents
+    others, told = {path for path, row in case.rows("changed", "failed") if had.get(path, row["sha256"]) != row["sha256"]}, case.ran.told("taken", "left")
+    if len(others) != told:
         yield f"{sorted(others)} have other contents than LOG had, of which {told} are told"
 
 
 def tells_gone(case: Case) -> Iterator[str]:
     """Files of the words that LOG has and that are gone are counted."""
-    below = (name for name in case.before.contents if any(f"{name}/".startswith(top.rstrip("/") + "/") for top in case.tops))
-    gone, told = sorted(filter(is_gone, below)), case.ran.told("moved", "forgotten", "gone")
-    if len(gone) > told and "--fixity" in case.ran.words:
+    gone, told = sorted(name for name in case.before.contents if case.is_below(name) and is_gone(name)), case.ran.told("moved", "forgotten", "gone")
+    if "--fixity" in case.ran.words and not len(gone) <= told <= len(gone) + len(case.before.without):
         yield f"{gone} are gone, of which {told} are told"
 
 
 def has_table(case: Case) -> Iterator[str]:
     """LOG has what the table says, by the name that it says it of."""
     for path, row in case.rows("changed", "failed"):
-        if case.after.content_by(path) != row["sha256"] and not case.ran.told("left"):
+        if case.after.contents.get(path) != row["sha256"] and not (case.ran.told("left") and path in case.before.contents):
             yield f"LOG has another content of {path} than the table"
 
 
 def compares_truly(case: Case) -> Iterator[str]:
-    """What is the same has the content that LOG has, and all that hasn't is told."""
-    before, told = case.before, set()
-    for path, row in case.rows():
-        if row["verdict"] == "same" and before.content_by(path) != row["sha256"]:
-            yield f"{path} is the same, and LOG has another content of it"
+    """What is the same has the content that LOG has, and what changed or is missing hasn't; and all that hasn't is told, each by its name."""
+    had, told = case.before.contents, set()
+    for path, row in case.rows("missing"):
+        if row["verdict"] in ("same", "changed") and (had.get(path) == row["sha256"]) != (row["verdict"] == "same"):
+            yield f"{path} is called {row['verdict']}, and LOG has {had.get(path)} of it"
     for row in case.ran.rows:
         paths = [row["path"], *([row["kept"]["path"]] if row["kept"] else [])] if row["verdict"] in (*FAULTS, "moved") else []
-        told |= {name for path in (spelled(case.ran.folder, path) for path in paths) for name in (path, os.path.realpath(path), before.name_of(path))}
-    kept = {**{link: (before.had[name], name) for link, name in before.other_links().items() if name in before.had}, **case.taken}
-    for name, (content, other) in {**kept, **{name: (content, name) for name, content in before.contents.items()}}.items():
-        if digest(name) != content and not told & {name, other, before.links.get(name)}:
-            yield f"{name} hasn't the content that LOG has, which isn't told"
-    yield from (f"{name} is gone, which isn't told" for name in before.without - told if not os.path.lexists(name))
+        told |= {spelled(case.ran.folder, path) for path in paths}
+        name = spelled(case.ran.folder, row["path"])
+        if row["verdict"] == "missing" and (name not in case.before.names() or not is_gone(name)):
+            yield f"{name} is called missing"
+    yield from (f"{name} hasn't the content that LOG has, which isn't told" for name, content in had.items() if digest(name) != content and name not in told)
+    yield from (f"{name} is gone, which isn't told" for name in case.before.without - told if not os.path.lexists(name))
 
 
 ALWAYS: Tuple[Callable[[Case], Iterator[str]], ...] = (keeps_files, has_right_status, says_truth, tells_contents, tells_lost)

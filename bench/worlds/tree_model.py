@@ -4,11 +4,13 @@ from __future__ import annotations
 
 import os
 import re
-from dataclasses import dataclass
+from dataclasses import dataclass, field
 from pathlib import PurePath
 from typing import Dict, FrozenSet, Iterator, List, Optional, Set, Tuple
 
 from tree_runs import WHOLE, Content, Ran, recovery_of
+
+from dwgtools.verdicts import is_settled
 
 OUT, LOG, NOTES = "out", "dwg-recover.log", ".notes"
 # A file that was begun and has no name yet.
@@ -37,6 +39,10 @@ class Source:
     path: str
     names: FrozenSet[str]
     content: Content
+    # Its size and time, whether the time of a later change is another for certain, and what was read by these names with this size and time before.
+    key: Tuple[int, int] = field(default=(0, 0), compare=False)
+    is_settled: bool = field(default=False, compare=False)
+    before: FrozenSet[Content] = field(default=frozenset(), compare=False)
 
 
 @dataclass(frozen=True)
@@ -97,8 +103,9 @@ class Model:
         # Of each name what a run wrote there last, by its bytes, or may have, and all that runs wrote there.
         self._last: Dict[str, Dict[bytes, Wish]] = {}
         self._ever: Dict[str, Dict[bytes, Wish]] = {}
-        # The whole names of all files that were read.
+        # The whole names of all files that were read, and what these had by their sizes and times.
         self._names: Set[str] = set()
+        self._read: Dict[Tuple[str, Tuple[int, int]], Set[Content]] = {}
         # Whether LOG has all that runs wrote.
         self.has_log = True
 
@@ -147,7 +154,13 @@ class Model:
         real = os.path.realpath(path)
         names = frozenset({real, path} & {real, *self._names})
         self._names.add(real)
-        return Source(os.path.relpath(path, self.folder), names, self._contents[state_of(real)[0]])
+        data, _, mtime_ns, _ = state_of(real)
+        key, content = (len(data), mtime_ns), self._contents[data]
+        read = [self._read.setdefault((name, key), set()) for name in names]
+        before = frozenset(one for known in read for one in known)
+        for known in read:
+            known.add(content)
+        return Source(os.path.relpath(path, self.folder), names, content, key, is_settled(mtime_ns), before)
 
     def wishes(self, sources: Dict[str, Source], options: Options) -> Dict[str, Wish]:
         """What is to stand below OUT of them."""
@@ -216,8 +229,7 @@ class Oracle:
             else:
                 yield from self._given_way(name, old.wish, wish)
 
-    @staticmethod
-    def _given_way(name: str, old: Wish, new: Wish) -> Iterator[str]:
+    def _given_way(self, name: str, old: Wish, new: Wish) -> Iterator[str]:
         """Why what a run wrote may not be replaced by what is to be written."""
         if not old.source.names & new.source.names:
             yield f"out/{name}, of {old.source.path}, is replaced by that of {new.source.path}"
@@ -225,6 +237,10 @@ class Oracle:
             yield f"out/{name}, a copy of {old.source.content.name}, is replaced by what was recovered"
         if old.source.content == new.source.content and (old.data, old.notes) != (new.data, new.notes):
             yield f"out/{name}, of {old.source.content.name}, is replaced by what another program recovered of the same"
+        # (a copy is better than what was recovered, and what was put right is what LOG had first)
+        is_worse, is_known = new.notes is not None or old.notes is None, self.model.has_log and old.source.is_settled
+        if is_worse and is_known and old.source.key == new.source.key and new.source.content not in {old.source.content, *new.source.before}:
+            yield f"out/{name}, of {old.source.content.name}, is replaced by {new.source.content.name}, which has the same size and time"
 
     def _written(self) -> Iterator[str]:
         """(8) What is new is what is to be written."""
@@ -302,7 +318,8 @@ class Oracle:
     def _may_be_written(self, name: str) -> bool:
         """Whether nothing keeps an output from being written."""
         wish, stands = self.wishes.get(name), [self.before[one].left for one in (name, name + NOTES) if one in self.before]
-        if wish is None:
+        # (what may have changed by itself may be refused)
+        if wish is None or wish.source.before - {wish.source.content}:
             return False
         is_own = all(one is not None and one.source.names == wish.source.names and not any(self._given_way(name, one, wish)) for one in stands)
         # (a file or a link may stand where a folder is to be)

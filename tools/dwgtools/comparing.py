@@ -13,7 +13,7 @@ from typing import IO, Any, Callable, Deque, Dict, Iterable, Iterator, List, Opt
 from .certificates import Certificates, refusal_of
 from .escapes import one_line
 from .inputs import bytes_of, is_hollow
-from .log import LED_ELSEWHERE, Contents, Links, Places, content_of, is_away, is_gone, is_spelling, link_of, open_log, read_row, refuse_file, spelled_name
+from .log import Contents, content_of, is_away, is_gone, open_log, read_row, refuse_file
 from .log_lines import take_lines
 from .program import Program, ProgramFailed
 from .rows import Row, as_object
@@ -21,7 +21,8 @@ from .statuses import Exit, ToolError
 from .table import Form
 from .verdicts import Checker
 from .versions import LIMIT
-from .walking import Named
+from .walking import Linked, Named
+from .whole_names import spelled_name
 
 # What a file is found to be beside what LOG has of it, and which of these are told by the status.
 STATES = ("same", "changed", "missing", "new", "moved", "not accepted", "unreadable", "failed")
@@ -57,7 +58,6 @@ class Kept(Contents):
     def __init__(self, path: str, tell_fault: Callable[[str], None]) -> None:
         super().__init__()
         self.name, self.is_link = one_line(path), os.path.islink(path)
-        self.links = Links()
         try:
             self._file = open_log(path, is_only_read=True)
             self.place = os.fstat(self._file.fileno())
@@ -70,38 +70,14 @@ class Kept(Contents):
             raise ToolError(f"{self.name}: {fault.strerror}", Exit.FAILURE) from None
         if not self:
             raise ToolError(f"{self.name} has no file", Exit.NOTHING_FOUND)
-        self._places = Places({*self, *self.without})
 
     def _take(self, told: Dict[str, Any], _maker: object) -> None:
         self.take(*read_row(told))
-        self.links.take(told)
-
-    def name_of(self, path: str) -> str:
-        """The name under which LOG has a file, or would have it."""
-        return self._places.name_of(path)
-
-    def led_to(self, path: str) -> Optional[str]:
-        """The name of the file to which LOG had it that a path led, where that is another than the one to which it leads now."""
-        name = self.links.get(spelled_name(path))
-        return None if name is None or self.had(name) is None or name == self.name_of(path) else name
-
-    def is_loose(self, link: str) -> bool:
-        """Whether a link leads to another file than it did, or LOG has the one to which it led no more, as where that was moved."""
-        return self.led_to(link) is not None or self.links[link] not in self and self.links[link] in self.forgotten
-
-    def leads_to_gone(self, path: str, name: str) -> bool:
-        """Whether a path leads by a link to a file of LOG that isn't there, which LOG has by another name than the link's."""
-        return name in self and link_of(path, name) not in (None, spelled_name(self[name].path)) and is_away(name)
-
-    def of_path(self, path: str) -> Optional[Row]:
-        """What LOG has of the file to which a path led, or had where that was moved."""
-        led_to = self.led_to(path)
-        return self.get(self.name_of(path)) if led_to is None else self.had(led_to)
 
     def named(self, absolute: str) -> Row:
         """What LOG has of a file, by the name that the words had, where that leads there from here, and else by its whole name."""
         row = self[absolute] if absolute in self else self.without[absolute]
-        return row if self.name_of(row.path) == absolute else replace(row, path=absolute)
+        return row if spelled_name(row.path) == absolute else replace(row, path=absolute)
 
 
 class Missing:
@@ -140,23 +116,20 @@ class Comparer(Checker):
 
     def compared(self, one: Named) -> Row:
         """The line of a file: whatever happens to it, there is one."""
-        name, kept = self._kept.name_of(one.path), self._kept.of_path(one.path)
+        kept = self._kept.get(spelled_name(one.path))
         found = Row(one.path, "unreadable", one.fault) if one.fault is not None else self.check(one.path)
-        if self._kept.name_of(one.path) != name:
-            found = Row(one.path, "failed", LED_ELSEWHERE)
         row = found if isinstance(found, Compared) else Compared(**vars(found), kept=kept, is_new=kept is None)
         if row.verdict == "unreadable" and kept is not None and is_away(one.path):
             row.verdict, row.detail = "missing", ""
         return row
 
     def checked(self, file: IO[bytes], row: Row) -> Row:
-        told, kept = os.fstat(file.fileno()), self._kept.of_path(row.path)
+        told, kept = os.fstat(file.fileno()), self._kept.get(spelled_name(row.path))
         line = Compared(row.path, "new", bytes=told.st_size, mtime_ns=told.st_mtime_ns, kept=kept, is_new=kept is None)
         line.sha256 = None if is_hollow(file, told.st_size) else self.digest(file, told.st_size)
         had = self._missing.verdict_of(line) if kept is None else kept.verdict
-        led_to = self._kept.led_to(row.path)
         if kept is not None and content_of(line) != content_of(kept):
-            line.verdict, line.detail = "changed", change_of(line, kept) if led_to is None else f"it led to {led_to}"
+            line.verdict, line.detail = "changed", change_of(line, kept)
         elif had is not None:
             line.verdict = "moved" if kept is None else "same"
             self.see_accepted(file, line, had)
@@ -207,33 +180,26 @@ def change_of(line: Row, kept: Row) -> str:
 
 
 def planned(found: Iterable[Named], kept: Kept) -> Tuple[List[Named], List[Row]]:
-    """The files to compare: those that are found, each once, and those that LOG has elsewhere; and what LOG has of names at which nothing is, but for
-    links. A link that leads elsewhere than it did is a file of its own."""
+    """The files to compare: those that are found, each name once, and those that LOG has elsewhere; and what LOG has of names at which nothing is."""
     plan: List[Named] = []
     seen: Set[str] = set()
     for one in found:
-        name = kept.name_of(one.path)
-        own = name if kept.led_to(one.path) is None and not kept.leads_to_gone(one.path, name) else spelled_name(one.path)
+        name = spelled_name(one.path)
         # (a word may name a file that is missing)
-        if own not in seen and not (name in kept and is_away(one.path)):
-            seen.add(own)
+        if name not in seen and not (name in kept and is_away(one.path)):
+            seen.add(name)
             plan.append(one)
-    shown = {spelled_name(one.path) for one in plan} if kept.links else set()
-    plan += [Named(link) for link in sorted(kept.links.keys() - seen - shown, key=os.fsencode) if kept.is_loose(link) and not is_away(link)]
     # (a folder that couldn't be read has a line too)
     rest = sorted({*kept, *(name for name in kept.without if not os.path.isdir(name))} - seen, key=os.fsencode)
     gone = {name for name in rest if (is_away if name in kept else is_gone)(name)}
-    return [*plan, *(Named(kept.named(name).path) for name in rest if name not in gone)], [kept.named(name) for name in rest if name in gone and name in kept]
+    left = [kept.named(name).path for name in rest if name not in gone]
+    return [*plan, *((Linked if os.path.islink(path) else Named)(path) for path in left)], [kept.named(name) for name in rest if name in gone and name in kept]
 
 
 def lost_names(kept: Kept) -> List[Row]:
-    """The lines of names at which nothing is, though LOG has them: of links, and of files of which it has no content."""
-    had = ((link, name, kept.had(name)) for link, name in kept.links.items())
-    # (a file that LOG has has a line of its own, whatever its spellings are)
-    lost = ((link, row) for link, name, row in had if row and is_away(link) and not (name in kept and is_away(name) and is_spelling(link, name)))
-    links = (replace(row, path=link) for link, row in lost)
+    """The lines of names at which nothing is, of whose files LOG has no content."""
     files = (kept.named(name) for name in kept.without if is_gone(name))
-    return [Compared(row.path, "missing", kept=row) for row in (*links, *files)]
+    return [Compared(row.path, "missing", kept=row) for row in files]
 
 
 def compared_rows(rows: Iterable[Row], missing: Missing, lost: List[Row]) -> Iterator[Row]:

@@ -12,14 +12,14 @@ import sys
 import threading
 from dataclasses import replace
 from functools import partial
-from typing import IO, Callable, ContextManager, Dict, Iterator, List, Optional, Sequence, Set, Tuple
+from typing import IO, Callable, ContextManager, Iterator, List, Optional, Sequence, Set, Tuple
 
 from . import verdicts
 from .crew import in_order
 from .escapes import one_line
 from .inputs import from_begin, pieces_of
 from .jobs import most_at_once
-from .log import LED_ELSEWHERE, WHOLE, digest_of_program
+from .log import WHOLE, digest_of_program
 from .outputs import Spot, WholeFile, is_as_judged, mask_of_modes
 from .pairs import Written, alone_beside, place_alone, place_both
 from .program import Answer, Patience, Program, ProgramFailed, ready_program
@@ -28,7 +28,7 @@ from .rows import Row
 from .statuses import Exit, Status, ToolError
 from .streams import tell
 from .table import Progress
-from .tree_lines import Line, Made, State, TreeTable, line_of_row, losses_told
+from .tree_lines import LED_ELSEWHERE, Line, Made, State, TreeTable, line_of_row, losses_told
 from .tree_log import TreeLog, names_of, state_of
 from .trees import LOG_NAME, NOTES, Planned, Sources, alike, is_spelled_so, left_behind, most_open, opened_folder, planned, refuse_folders, refuse_read
 from .verdicts import Checker
@@ -40,6 +40,10 @@ OPEN_BY_RECOVERY = 18
 
 # How many folders have a lock of their own within this process.
 LOCKS = 64
+
+
+# An output and its notes, or a copy alone, each with its SHA-256.
+Outputs = List[Tuple[WholeFile, str]]
 
 
 class Door:
@@ -261,6 +265,7 @@ class Growing(Checker):
             self.stands(line, replace(known, output=self.one.name))
             return
         with self.folder() as at, self.begun(file, self.out, at) as whole, self.begun(file, self.notes, at) as notes:
+            refuse_name(notes)
             made = self.recovered(content, whole, notes)
             self.refuse_changed(file, line)
             if not made.kept and not self.grower.options.even_empty:
@@ -296,7 +301,8 @@ class Growing(Checker):
             told = os.fstat(file.fileno())
             whole.times = told.st_atime_ns, told.st_mtime_ns
             self.refuse_changed(file, line)
-            self.place(file, line, made, [(whole, line.sha256)], lambda: self.place_alone(file, whole))
+            notes = whole.spot(os.path.basename(self.notes))
+            self.place(file, line, made, [(whole, line.sha256)], lambda: self.place_alone(whole, notes), notes)
 
     def folder(self) -> ContextManager[int]:
         """The folder in which the outputs are to stand."""
@@ -349,11 +355,11 @@ class Growing(Checker):
             raise ToolError(f"{spot.path} was changed or replaced meanwhile", Exit.EXISTS)
         return digest, state
 
-    def place(self, file: IO[bytes], line: Line, made: Made, files: List[Tuple[WholeFile, str]], place: Callable[[], None]) -> None:
-        """Gives outputs of such contents their names, where what is there may be replaced. LOG has them before, so that it knows them again whatever
-        ends the run."""
+    def place(self, file: IO[bytes], line: Line, made: Made, files: Outputs, place: Callable[[], None], away: Optional[Spot] = None) -> None:
+        """Gives outputs of such contents their names, where what is there may be replaced, and notes that are to go away may. LOG has them before, so
+        that it knows them again whatever ends the run; and where they don't get their names, it has that too."""
         if not self.is_there(file, made):
-            self.may_replace(file, line, made, files)
+            self.may_replace(file, line, made, files, away)
         for whole, _ in reversed(files):
             whole.finish()
         with self.grower.alone(files[0][0]):
@@ -361,26 +367,30 @@ class Growing(Checker):
             if self.is_there(file, made):
                 self.stands(line, made)
                 return
-            self.may_replace(file, line, made, files)
+            self.may_replace(file, line, made, files, away)
             line.made, stood = made, self.stood(files[0][0])
-            self.tree.add(line, stood)
-            does_replace = any(whole.force for whole, _ in files)
-            if does_replace:
-                # (after a power cut too it is to be known)
-                self.tree.sync()
-            if self.tree.fault and does_replace:
-                # (later it would be the output that LOG doesn't know)
-                raise ToolError(f"{self.out} is left as it is, since the log can't be written: {self.tree.fault}", Status.WRITE_FAULT)
+            is_added = self.tree.add(line, stood)
             try:
+                # (after a power cut too it is to be known: it would be an output that LOG doesn't know)
+                fault = self.tree.sync() if any(whole.force for whole, _ in files) else ""
+                if fault:
+                    raise ToolError(f"{self.out} is left as it is, since the log can't be written: {fault}", Status.WRITE_FAULT)
                 place()
             except BaseException:
-                # (what stood there stands there again, and was touched)
-                self.tree.keep(line, stood)
+                if not self.has_name(files[0][0]):
+                    self.tree.take_back(line, stood, is_added)
                 raise
             self.refuse_moved(files[0][0], ", and the output went with it")
             self.tree.stands(line)
             self.written([whole for whole, _ in files])
             self.say(line, made)
+
+    @staticmethod
+    def has_name(whole: WholeFile) -> bool:
+        """Whether an output has its name, as where its notes can't have theirs and it can't be taken away again."""
+        with contextlib.suppress(OSError):
+            return whole.is_own(whole.there(whole.name))
+        return False
 
     def refuse_moved(self, whole: WholeFile, more: str = "") -> None:
         """Refuses a folder that isn't the one of its name any more: what somebody sets aside is written into no further."""
@@ -401,9 +411,9 @@ class Growing(Checker):
                 found[at] = state_of(whole.there(os.path.basename(path)))
         return found[0], found[1]
 
-    def may_replace(self, file: IO[bytes], line: Line, made: Made, files: List[Tuple[WholeFile, str]]) -> None:
-        """Has outputs replace what is there, where that is of an earlier run and as it left it; else Refused, unless forced. What is whole, and perhaps
-        the last that is, never gives way to what was recovered."""
+    def may_replace(self, file: IO[bytes], line: Line, made: Made, files: Outputs, away: Optional[Spot] = None) -> None:
+        """Has outputs replace what is there, and notes go away, where that is of an earlier run and as it left it; else Refused, unless forced. What is
+        whole, and perhaps the last that is, never gives way to what was recovered, nor to what a file became by itself."""
         for whole, digest in files:
             there, state = self.judged(whole, file)
             whole.force, whole.judged = False, None
@@ -419,11 +429,17 @@ class Growing(Checker):
                 raise Refused(f"{whole.path} is there already, and isn't what a run left there; --force replaces it")
             if there != digest and self.tree.is_of(name, there, line.sha256) and not self.grower.options.force:
                 raise Refused(f"{whole.path} is of the same content, by another program; --force replaces it")
+            # (a drawing that is whole again, as from a backup, is better than what was recovered)
+            is_better = made.is_whole and not self.tree.is_whole(name, there)
+            if there != digest and not is_better and self.tree.is_changed(line) and not self.grower.options.force:
+                raise Refused(f"{whole.path} is of another content, and that of the file changed though its size and time didn't; --force replaces it")
             if there != digest and self.tree.is_whole(name, there) and not made.is_whole and not self.grower.options.force:
                 raise Refused(f"{whole.path} is whole, and what is recovered isn't; --force replaces it")
             if os.path.samestat(state, self.tree.place):
                 raise Refused(f"{whole.path} is the log")
             whole.force, whole.judged = True, state
+        if away is not None:
+            away.force = self.has_own_notes(file, away)
 
     def place_pair(self, whole: WholeFile, notes: WholeFile) -> None:
         """Gives a drawing and its notes their names; a fault tells what is left behind."""
@@ -435,16 +451,23 @@ class Growing(Checker):
                 raise
             raise ToolError(f"{self.notes} can't be written: {fault.strerror}; {written}", Status.WRITE_FAULT) from None
 
-    def place_alone(self, file: IO[bytes], whole: WholeFile) -> None:
+    def place_alone(self, whole: WholeFile, notes: Spot) -> None:
         """Gives a copy its name, beside which no notes stand of what stood there before; a fault tells what is left behind."""
-        written, notes = Written(self.out), whole.spot(os.path.basename(self.notes))
-        notes.force = self.has_own_notes(file, notes)
+        written = Written(self.out)
         try:
             place_alone(whole, notes, written)
         except OSError as fault:
             if not str(written):
                 raise
             raise ToolError(f"{self.out} can't be written: {fault.strerror}; {written}", Status.WRITE_FAULT) from None
+
+
+def refuse_name(file: WholeFile) -> None:
+    """Refuses a name that no file can have, as it may be too long for one of notes, before any work."""
+    try:
+        file.there(file.name)
+    except OSError as fault:
+        raise ToolError(f"{file.path} can't be written: {fault.strerror}", Status.WRITE_FAULT) from None
 
 
 def refuse_answer(answer: Answer, out: str) -> None:
@@ -484,13 +507,13 @@ def grow_all(plan: List[Planned], grower: Grower, progress: Progress, options: a
     return table
 
 
-def is_left(name: str, written: Dict[str, List[str]], log: TreeLog, options: argparse.Namespace) -> bool:
-    """Whether a run's own output stands at a name below OUT, and nothing that somebody put there; of what can't be read nobody knows."""
+def is_left(name: str, source: str, log: TreeLog, options: argparse.Namespace) -> bool:
+    """Whether a run's own output of a file stands at a name below OUT, and nothing that somebody put there; of what can't be read nobody knows."""
     spot = Spot(os.path.join(options.tree, name))
     try:
         there = there_at(spot)
         digest = digest_of_output(spot) if there is not None and stat.S_ISREG(there.st_mode) else None
-        return digest is not None and any(log.is_own(name, digest, source, there) for source in written[name])
+        return digest is not None and log.is_own(name, digest, source, there)
     except OSError:
         return True
 
@@ -498,7 +521,7 @@ def is_left(name: str, written: Dict[str, List[str]], log: TreeLog, options: arg
 def tell_left(plan: List[Planned], log: TreeLog, options: argparse.Namespace) -> None:
     """Tells of the outputs that stand whose files aren't there any more."""
     written = log.written()
-    left = [os.path.join(options.tree, name) for name in left_behind(plan, written, options) if is_left(name, written, log, options)]
+    left = [os.path.join(options.tree, name) for name in left_behind(plan, written, options) if is_left(name, written[name], log, options)]
     if left:
         what = f"{len(left)} outputs stand whose files aren't" if len(left) > 1 else "an output stands whose file isn't"
         tell(f"{what} there any more{', the first is' if len(left) > 1 else ':'} {one_line(left[0])}")

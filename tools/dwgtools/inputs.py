@@ -171,6 +171,9 @@ def pieces_of(file: IO[bytes], end: int, at: int = 0) -> Iterator[bytes]:
 
 # A file of more than so many bytes is hollow where it has more than so many times what the disk has of it.
 LEAST_HOLLOW, MOST_HOLLOW = 1 << 26, 64
+# And one of more than so many also where the file system doesn't tell of holes: what is read to its end in minutes is read. (One that packs files has
+# less of them too.)
+MOST_UNTOLD = 1 << 34
 
 
 def is_hollow(file: IO[bytes], size: int) -> bool:
@@ -184,9 +187,10 @@ def is_hollow(file: IO[bytes], size: int) -> bool:
             begin = os.lseek(handle, at, os.SEEK_DATA)
             at = os.lseek(handle, begin, os.SEEK_HOLE)
             held += at - begin
-        return False
+        # (a file system that doesn't tell of holes tells how much it has)
+        return size > MOST_UNTOLD and MOST_HOLLOW * 512 * os.fstat(handle).st_blocks < size
     except (OSError, AttributeError) as fault:
-        # (there is nothing but a hole after this; and what doesn't tell of holes has none)
+        # (there is nothing but a hole after this)
         return isinstance(fault, OSError) and fault.errno == errno.ENXIO
     finally:
         os.lseek(handle, before, os.SEEK_SET)

@@ -12,7 +12,7 @@ import re
 import stat
 import threading
 from dataclasses import asdict, dataclass, replace
-from typing import IO, Any, Callable, Collection, Dict, Iterable, Iterator, List, Optional, Set, Tuple
+from typing import IO, Any, Callable, Collection, Dict, Iterable, List, Optional, Set, Tuple
 
 from .arguments import commit
 from .escapes import one_line
@@ -27,7 +27,7 @@ from .statuses import Exit, ToolError
 from .streams import tell
 from .versions import LIMIT
 from .walking import is_called_drawing
-from .whole_names import MOST_NAME, absolute_name
+from .whole_names import MOST_NAME, absolute_name, spelled_name
 
 Key = Tuple[str, int, int]
 
@@ -44,9 +44,6 @@ FULL = (errno.ENOSPC, errno.EDQUOT, errno.EIO, errno.EFBIG)
 # The time of a line that has none, which no file has.
 UNTIMED = -(1 << 96)
 
-# What is said of a file whose name was another before than after it was read.
-LED_ELSEWHERE = "its name led to another file while it was read"
-
 # How often LOG is read at the most, by its size, to see whether it still stands: who touches it all the time doesn't hold the run up.
 MOST_LOOKS = 8
 
@@ -62,34 +59,6 @@ DIGEST, VERSION_TOLD = re.compile("[0-9a-f]{64}"), re.compile("(?:AC[0-9]{4})?")
 
 # The verdicts that come with findings, and those that a drawing with a preview has.
 WHOLE = ("sound", "unsound", "trailing bytes")
-
-
-def spelled_name(path: str) -> str:
-    """The whole name of a file as it is spelled: links in it aren't gone through, but for those before the last `..`, which leads up from there."""
-    parts = [part for part in path.split(os.sep) if part not in ("", os.curdir)]
-    ups = [index for index, part in enumerate(parts) if part == os.pardir]
-    begin = os.sep if path.startswith(os.sep) else os.curdir
-    cut = ups[-1] + 1 if ups else 0
-    return os.path.join(absolute_name(os.path.join(begin, *parts[:cut])), *parts[cut:])
-
-
-def link_of(path: str, name: str) -> Optional[str]:
-    """The whole name by which a path leads to the file that LOG has by another one; None where no link leads there."""
-    spelled = spelled_name(path)
-    return spelled if spelled != name and absolute_name(path) != spelled else None
-
-
-class Links(Dict[str, str]):
-    """Names that lead to files by links, each with the name by which LOG had the file when it took it last."""
-
-    def take(self, told: Dict[str, Any]) -> None:
-        """Takes a line of LOG. What is a file by its own name is none beyond a link any more. (Of what couldn't be read nobody knows, and of what became
-        another by itself nobody compares it with what the link led to before.)"""
-        if told["verdict"] in ("unreadable", "changed") and told.get("forgotten") is not True:
-            return
-        self.pop(told["absolute"], None)
-        if told.get("link") is not None:
-            self[told["link"]] = told["absolute"]
 
 
 def is_gone(path: str) -> bool:
@@ -112,11 +81,6 @@ def is_away(path: str) -> bool:
         return is_gone(path)
 
 
-def is_spelling(link: str, name: str) -> bool:
-    """Whether a name that leads to a file by a link is another spelling of its name: by a folder that leads there."""
-    return os.path.join(absolute_name(os.path.dirname(link)), os.path.basename(link)) == name
-
-
 def nearest_folders(folders: Iterable[str]) -> Dict[str, Optional[str]]:
     """Of each folder in which a file stood that is gone that folder, where it is there, or the nearest one that it stood in; None where a link is left
     that leads to none, as to a volume that isn't mounted. (Folders may stand in each other by thousands.)"""
@@ -135,44 +99,46 @@ def nearest_folders(folders: Iterable[str]) -> Dict[str, Optional[str]]:
 
 
 def names_of_words(words: Iterable[str]) -> Set[str]:
-    """The whole names of words, each as it leads somewhere and as it is spelled."""
-    return {name for word in filter(None, words) for name in (absolute_name(word), spelled_name(word))}
+    """The whole names of words."""
+    return {spelled_name(word) for word in filter(None, words)}
 
 
-def has_file(folder: str) -> bool:
-    """Whether a folder that can be read has a regular file, whatever that is called."""
-    try:
-        with os.scandir(folder) as entries:
-            return any(entry.is_file(follow_symlinks=False) for entry in entries)
-    except OSError:
-        return False
+def inner_folders(folder: str) -> Optional[List[str]]:
+    """The folders in a folder, none of one that can't be read; None where it has a regular file, whatever that is called."""
+    inner = []
+    with contextlib.suppress(OSError), os.scandir(folder) as entries:
+        for entry in entries:
+            if entry.is_file(follow_symlinks=False):
+                return None
+            if entry.is_dir(follow_symlinks=False):
+                inner.append(entry.path)
+    return inner
 
 
-class Places:
-    """Where the folders of the names of LOG are now, by which a file is known again: a folder may have become a link since LOG has it."""
+def has_file(folder: str, empty: Set[str]) -> bool:
+    """Whether a folder has a regular file, in itself or deeper; `empty` gets those that have none. (Folders may stand in each other by thousands.)"""
+    way: List[Tuple[str, List[str]]] = [("", [folder])]
+    while way:
+        at, left = way[-1]
+        if not left:
+            empty.add(at)
+            way.pop()
+            continue
+        one = left.pop()
+        inner = [] if one in empty else inner_folders(one)
+        if inner is None:
+            return True
+        way.append((one, inner))
+    return False
 
-    def __init__(self, names: Collection[str]) -> None:
-        self._names = names
-        self._led: Dict[str, str] = {}
-        # (many files stand in one folder)
-        folders: Dict[str, str] = {}
-        for name in names:
-            folder, last = os.path.split(name)
-            if folder not in folders:
-                folders[folder] = absolute_name(folder)
-            if folders[folder] != folder:
-                self._led.setdefault(os.path.join(folders[folder], last), name)
 
-    def name_of(self, path: str) -> str:
-        """The name that LOG has for a file: as it is spelled, whatever stands there now, else by its folder, and else its whole name."""
-        spelled = spelled_name(path)
-        if spelled in self._names:
-            return spelled
-        name, (folder, last) = absolute_name(path), os.path.split(spelled)
-        for place in (os.path.join(absolute_name(folder), last), name):
-            if place in self._names or place in self._led:
-                return place if place in self._names else self._led[place]
-        return name
+def folders_with_files(names: Collection[str]) -> Dict[str, str]:
+    """Of each file that is gone the nearest folder that is there, where that has a file; one in which a volume isn't mounted has none."""
+    empty: Set[str] = set()
+    nearest = nearest_folders({os.path.dirname(name) for name in names})
+    full = {near for near in {*nearest.values()} if near is not None and has_file(near, empty)}
+    found = ((name, nearest[os.path.dirname(name)]) for name in names)
+    return {name: near for name, near in found if near is not None and near in full}
 
 
 @dataclass
@@ -187,8 +153,6 @@ class Contents(Dict[str, Row]):
     def __init__(self) -> None:
         super().__init__()
         self.without: Dict[str, Row] = {}
-        # What it had of those that it was told to forget.
-        self.forgotten: Dict[str, Row] = {}
 
     def take(self, absolute: str, row: Row) -> None:
         """Takes a line of LOG."""
@@ -200,18 +164,13 @@ class Contents(Dict[str, Row]):
         elif absolute not in self and row.detail not in NOTHING_THERE:
             self.without[absolute] = row
 
-    def had(self, absolute: str) -> Optional[Row]:
-        """What it has of the content of a file, or had of one that was moved or forgotten."""
-        return self.get(absolute) or self.forgotten.get(absolute)
-
     def has(self, absolute: str) -> bool:
         """Whether it has anything of a file."""
         return absolute in self or absolute in self.without
 
     def forget(self, absolute: str) -> None:
         """Has nothing of a file any more."""
-        if absolute in self:
-            self.forgotten[absolute] = self.pop(absolute)
+        self.pop(absolute, None)
         self.without.pop(absolute, None)
 
 
@@ -277,8 +236,6 @@ def read_row(told: Dict[str, Any]) -> Tuple[str, Row]:
     if not all(isinstance(told.get(name), str) for name in TEXTS) or told["verdict"] not in VERDICTS or not VERSION_TOLD.fullmatch(told["version"]):
         raise NoLine
     if not is_name(told["path"]) or not is_name(told["absolute"]):
-        raise NoLine
-    if told.get("link") is not None and not (isinstance(told["link"], str) and is_name(told["link"])):
         raise NoLine
     if not (digest is None or isinstance(digest, str) and DIGEST.fullmatch(digest)):
         raise NoLine
@@ -368,13 +325,9 @@ class Log:
         self._contents: Dict[str, Row] = {}
         # Why each file couldn't be read of which the last line says so.
         self._unreadable: Dict[str, str] = {}
-        # What LOG had when the run began; what was found under names that it didn't have, and which of its own weren't there, though they were named.
-        self._before, self._links = Contents(), Links()
-        self._names: Set[str] = set()
-        self._places = Places(self._names)
+        # What LOG had when the run began, and what was found under names that it didn't have.
+        self._before = Contents()
         self._new: Dict[str, Row] = {}
-        self._missed: Set[str] = set()
-        self._named: Set[str] = set()
         # Files of LOG that have another content than it had, and not by themselves.
         self.others: Set[str] = set()
         # Their lines, by the names of the files, which LOG gets once that is told.
@@ -403,7 +356,6 @@ class Log:
         self._file.seek(0)
         read = take_lines(seen.readline, lambda told, maker: self.take_line(told, maker == own), self.name, self._tell)
         self._seen = seen
-        self._places = Places(self._names)
         try:
             if not read.is_ended:
                 self._append(b"")
@@ -418,12 +370,10 @@ class Log:
     def take_line(self, told: Dict[str, Any], is_current: bool) -> None:
         """Takes a line that is no head, made by this program and these rules or by others; NoLine where it isn't as it should be."""
         self._take(*read_row(told), is_current)
-        self._links.take(told)
 
     def _take(self, absolute: str, row: Row, is_current: bool) -> None:
         """Knows a file again; what it is found to be counts only where this program found it, by these rules."""
         self._before.take(absolute, row)
-        self._names.add(absolute)
         if isinstance(row, Forgotten):
             for key in self._keys.pop(absolute, ()):
                 del self._known[key]
@@ -453,11 +403,11 @@ class Log:
 
     def name_of(self, path: str) -> str:
         """The name under which LOG has a file, or would have it."""
-        return self._places.name_of(path)
+        return spelled_name(path)
 
     def has_digest(self, path: str) -> bool:
         """Whether LOG had the SHA-256 of a file when the run began, whatever that was then."""
-        return self._places.name_of(path) in self._before
+        return self.name_of(path) in self._before
 
     def of_content(self, digest: str) -> Optional[Row]:
         """What a content is found to be by this program."""
@@ -467,7 +417,7 @@ class Log:
         """What this program found of a file that has the size and the time that it had."""
         try:
             told = os.stat(path)
-            key = (self._places.name_of(path), told.st_size, told.st_mtime_ns)
+            key = (self.name_of(path), told.st_size, told.st_mtime_ns)
         except (OSError, ValueError):
             return None
         known = self._known[key] if key in self._current and key[0] not in self._unreadable else None
@@ -475,26 +425,23 @@ class Log:
         return None if known is None or known.verdict == "changed" else replace(known, path=path)
 
     def found_again(self, row: Row) -> None:
-        """Takes note of a file that is as LOG has it, though perhaps not last, nor by this link."""
-        name = self._places.name_of(row.path)
+        """Takes note of a file that is as LOG has it, though perhaps not last."""
+        name = self.name_of(row.path)
         key = (name, row.bytes or 0, row.mtime_ns or 0)
         if self._sees_other(name, row):
             self._withheld.append((name, row))
-        elif self._latest.get(name) != key or not self._has_link(row.path, name):
+        elif self._latest.get(name) != key:
             # (it was another meanwhile, which LOG would have of it)
             self.add_line(name, row)
             self._latest[name] = key
 
     def _sees_other(self, name: str, row: Row) -> bool:
-        """Whether a file has another content than LOG had last by its name, and not by itself, which is noted; also a link that led to another file, or
-        stood where the file stands now."""
-        if row.sha256 is None and row.verdict in ("unreadable", "failed"):
+        """Whether a file has another content than LOG had last by its name, and not by itself, which is noted."""
+        had = self._before.get(name)
+        if had is None or row.sha256 is None and row.verdict in ("unreadable", "failed") or content_of(row) == content_of(had):
             return False
-        had = [(name, self._before.get(name))]
-        had += [(link, self._before.had(self._links[link])) for link in {spelled_name(row.path), name} if link in self._links] if self._links else []
-        others = {one for one, kept in had if kept is not None and content_of(row) != content_of(kept)}
-        self.others |= others
-        return bool(others)
+        self.others.add(name)
+        return True
 
     def take_others(self) -> None:
         """Has LOG take the other contents, which are told now."""
@@ -507,11 +454,6 @@ class Log:
         if name not in self._before:
             self._new[name] = row
 
-    def _has_link(self, path: str, name: str) -> bool:
-        """Whether LOG has it that a path leads to a file, where it does so by a link."""
-        link = link_of(path, name)
-        return link is None or self._links.get(link) == name
-
     def moved(self, gone: Iterable[str]) -> List[str]:
         """Those of the files that are gone, of each of which the content was found under a new name."""
         left, found = collections.Counter(map(content_of, self._new.values())), []
@@ -523,75 +465,46 @@ class Log:
         return found
 
     def gone(self, words: Iterable[str]) -> List[str]:
-        """The whole names of files that aren't there any more, and of links that aren't, which the words named or which stand below these, in their order;
-        and of files that aren't there any more to which such links led."""
-        tops = names_of_words(words) | self._missed
-        links = {link for link, name in self._links.items() if self._before.had(name) or self._before.has(name)}
-        names = {*self._before, *self._before.without, *links}
+        """The names of LOG at which no file is any more, which the words named or which stand below these, in their order."""
+        tops, names = names_of_words(words), {*self._before, *self._before.without}
         # (many files stand in one folder)
-        folders = {folder for folder in {os.path.dirname(name) for name in names} if is_among(folder, tops) or is_among(absolute_name(folder), tops)}
-        found = {name for name in names if (name in tops or os.path.dirname(name) in folders) and self._is_away(name)}
-        files = {self._links[name] for name in found if name in self._links}
-        return sorted({name for name in found if not self._is_spelling_of_one(name)} | {name for name in files if self._before.has(name) and self._is_away(name)})
-
-    def _is_spelling_of_one(self, link: str) -> bool:
-        """Whether a name that is gone stands for a file that is gone too, by another spelling."""
-        name = self._links.get(link)
-        return name is not None and name in self._before and is_spelling(link, name)
-
-    def is_named(self, name: str) -> bool:
-        """Whether a file that is gone was named itself."""
-        return name in self._named
+        folders = {folder for folder in {os.path.dirname(name) for name in names} if is_among(folder, tops)}
+        return sorted(name for name in names if (name in tops or os.path.dirname(name) in folders) and self._is_away(name))
 
     def _is_away(self, name: str) -> bool:
         """Whether what LOG has by a name isn't there any more; of what could never be read, as a folder, whether anything is."""
         return is_gone(name) if name in self._before.without else is_away(name)
 
     def forget(self, names: Iterable[str]) -> None:
-        """Has LOG have files and links no more, nor other spellings of them."""
-        all_names = {*names}
-        links = {link for link, name in self._links.items() if name in all_names and is_gone(link) and is_spelling(link, name)}
-        for name in sorted(all_names | links):
+        """Has LOG have files no more."""
+        for name in sorted(names):
             self._before.forget(name)
             self.add_line(name, Forgotten(name, "unreadable", GONE))
 
-    def kept(self, row: Row, before: Optional[str] = None, is_named: bool = True) -> Row:
-        """The line of a file that was looked at, kept in LOG: `changed` where its first content of this size and time was another. Of one whose name
-        before that was another nobody knows which file it is of. One that isn't named a folder has, as a link to nothing."""
+    def kept(self, row: Row) -> Row:
+        """The line of a file that was looked at, kept in LOG: `changed` where its first content of this size and time was another."""
         if row.verdict == "failed" and not row.lasting:
             return row
-        absolute = self._places.name_of(row.path)
-        if before is not None and before != absolute:
-            return Row(row.path, "failed", LED_ELSEWHERE)
-        if row.verdict == "unreadable" and row.detail in (GONE, NO_FOLDER) and row.path:
-            spelled = spelled_name(row.path)
-            self._named |= {absolute, spelled} if is_named else set()
-            if self._before.has(absolute) or absolute in self._links:
-                # (LOG forgets nothing by itself)
-                self._missed.add(absolute)
-                return row
-            # (it may have been a folder, and what a link led to is none of the words)
-            if is_gone(row.path):
-                self._missed.add(spelled)
-        key = (absolute, row.bytes or 0, row.mtime_ns or 0)
-        old, is_other = self._known.get(key), False
+        name = self.name_of(row.path)
+        if row.verdict == "unreadable" and row.detail in (GONE, NO_FOLDER) and self._before.has(name):
+            # (LOG forgets nothing by itself)
+            return row
+        key = (name, row.bytes or 0, row.mtime_ns or 0)
+        old = self._known.get(key)
         changed = self.as_changed(key, row)
         if changed is not None:
             row = changed
-        else:
-            is_other = self._sees_other(absolute, row)
-        is_there = key in self._current and old is not None and old.sha256 == row.sha256 and absolute not in self._unreadable
-        is_there = is_there and self._latest[absolute] == key and (row.verdict == "changed" or self._has_link(row.path, absolute))
-        if is_other:
-            self._withheld.append((absolute, row))
+        elif self._sees_other(name, row):
+            self._withheld.append((name, row))
             return row
-        if not is_there and not (row.verdict == "unreadable" and self._unreadable.get(absolute) == row.detail):
-            is_there = self.add_line(absolute, row)
+        is_there = key in self._current and old is not None and old.sha256 == row.sha256 and name not in self._unreadable and self._latest[name] == key
+        if not is_there and not (row.verdict == "unreadable" and self._unreadable.get(name) == row.detail):
+            is_there = self.add_line(name, row)
             if row.bytes is not None:
-                self._latest[absolute] = key
+                self._latest[name] = key
         # (what LOG doesn't have takes the place of nothing)
         if is_there:
-            self._take_new(absolute, row)
+            self._take_new(name, row)
         return row
 
     def as_changed(self, key: Key, row: Row) -> Optional[Row]:
@@ -609,9 +522,6 @@ class Log:
         if not is_name(row.path) or len(row.path) > MOST_NAME:
             return False
         told: Dict[str, Any] = {**as_object(row if row.settled else replace(row, mtime_ns=None)), "absolute": absolute}
-        link = link_of(row.path, absolute)
-        if link is not None:
-            told["link"] = link
         if isinstance(row, Forgotten):
             told["forgotten"] = True
         line = line_of_log(told)
@@ -623,7 +533,6 @@ class Log:
                 return False
             try:
                 self._append(line)
-                self._links.take(told)
                 return True
             except OSError as fault:
                 self.fault = str(fault.strerror)

@@ -14,7 +14,7 @@ from .streams import input_name, is_own_pipe, is_standard
 from .temporary import temporary_told
 from .verdicts import open_regular
 from .versions import OURS
-from .walking import Named, Walk, walked, without_new
+from .walking import Named, Walk, walked, without_new, without_outputs
 
 
 @dataclass(frozen=True)
@@ -25,15 +25,15 @@ class Source(Named):
     can_wait: bool = False
 
 
-def sources_of(words: Sequence[str], walk: Walk, new: Sequence[os.stat_result]) -> Iterator[Source]:
-    """What the words name, in their order, and of folders what the walk takes, without new files that the output or messages go to. A named pipe is
-    waited for where it holds up no other word."""
+def sources_of(words: Sequence[str], walk: Walk, new: Sequence[os.stat_result], out: Optional[os.stat_result] = None) -> Iterator[Source]:
+    """What the words name, in their order, and of folders what the walk takes, without new files that the output or messages go to; `out` is the output
+    that is there already. A named pipe is waited for where it holds up no other word."""
     seen: Set[Tuple[int, int]] = set()
     for word in words:
         if is_standard(word) or not os.path.isdir(word):
             yield Source(word, can_wait=len(words) == 1 or is_standard(word) or is_own_pipe(word))
             continue
-        for one in without_new(walked(word, walk, seen), new):
+        for one in without_outputs(without_new(walked(word, walk, seen), new), walk, out):
             yield Source(one.path, one.fault, is_named=one.fault is not None and one.path == word)
 
 

@@ -161,6 +161,11 @@ def _hush() -> None:
 _ANY_VERSION = re.compile(rb"AC[0-9][0-9.]")
 
 
+def is_any_version(data: bytes) -> bool:
+    """Whether a file begins as a drawing of any version does."""
+    return bool(_ANY_VERSION.match(data))
+
+
 def hush_where_drawing() -> None:
     """Says nothing at all where standard error is a drawing, whoever names that: what is said would stand after its end.
 
@@ -171,7 +176,7 @@ def hush_where_drawing() -> None:
         return
     # (it is open to be written, and another descriptor reads it)
     with contextlib.suppress(OSError), open("/dev/fd/2", "rb") as file:
-        if is_one_file(own, os.fstat(file.fileno())) and _ANY_VERSION.match(file.read(MOST_HEADER)):
+        if is_one_file(own, os.fstat(file.fileno())) and is_any_version(file.read(MOST_HEADER)):
             sys.stderr = open(os.devnull, "w", encoding="utf-8", errors="backslashreplace")
 
 

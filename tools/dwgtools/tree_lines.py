@@ -8,7 +8,6 @@ from dataclasses import dataclass, field
 from typing import Any, Dict, Optional, Tuple
 
 from .escapes import one_line
-from .log import LED_ELSEWHERE
 from .notes import MAPPING
 from .rows import Row
 from .statuses import Exit, Status, ToolError
@@ -17,6 +16,9 @@ from .statuses import Exit, Status, ToolError
 COLUMNS = ("path", "outcome", "detail", "kept", "lost", "found", "findings", "status", "output")
 # What stands for a number that isn't known.
 UNKNOWN = "?"
+
+# What is said of a file whose name was another before than after it was read.
+LED_ELSEWHERE = "its name led to another file while it was read"
 
 # What a file ends with that isn't damaged, as `dwg-recover` over it alone would; of those that failed `STATUS_OF_FAILED` has some.
 STATUS_OF = {
@@ -54,7 +56,7 @@ class Made:
     findings: Optional[int] = None
     parts: Dict[str, int] = field(default_factory=dict)
     mapped: Optional[bool] = None
-    # Whether it stands for certain, which LOG tells where runs wrote other outputs of the file before.
+    # Whether it stands for certain, which LOG tells where runs wrote other outputs of the file before; or was never placed, where it was only about to be.
     placed: Optional[bool] = None
     # When it was about to be placed, in nanoseconds since 1970, and what stood at its name and that of its notes then: all else there somebody put there.
     at_ns: Optional[int] = None

@@ -5,16 +5,17 @@ from __future__ import annotations
 import os
 import time
 from dataclasses import dataclass, fields, replace
-from typing import Any, Callable, Dict, List, Optional, Set, Tuple
+from typing import Any, Callable, Collection, Dict, FrozenSet, Optional, Set, Tuple
 
 from .escapes import one_line
-from .log import DIGEST, LEAST, MOST, Log, is_name
+from .log import DIGEST, LEAST, MOST, Key, Log, is_name
 from .log_lines import NoLine, is_number
 from .notes import LOSSES
 from .rows import Row
 from .statuses import Exit, ToolError
 from .tree_lines import Line, Made, State
 from .trees import NOTES
+from .whole_names import absolute_name, spelled_name
 
 # The numbers of what was written.
 NUMBERS = ("kept", "lost", "found", "findings")
@@ -84,6 +85,54 @@ def state_of(there: Optional[os.stat_result]) -> State:
     return None if there is None else (there.st_ino, there.st_mtime_ns)
 
 
+def key_of(line: Line) -> Key:
+    """By what LOG knows a file again."""
+    return line.source, line.bytes or 0, line.mtime_ns or 0
+
+
+class Places:
+    """Where the folders of the names of LOG are now, by which a file is known again: a folder may have become a link since LOG has it."""
+
+    def __init__(self, names: Collection[str]) -> None:
+        self._names = names
+        self._led: Dict[str, str] = {}
+        # (many files stand in one folder)
+        folders: Dict[str, str] = {}
+        for name in names:
+            folder, last = os.path.split(name)
+            if folder not in folders:
+                folders[folder] = absolute_name(folder)
+            if folders[folder] != folder:
+                self._led.setdefault(os.path.join(folders[folder], last), name)
+
+    def name_of(self, path: str) -> str:
+        """The name that LOG has for a file: as it is spelled, whatever stands there now, else by its folder, and else its whole name."""
+        spelled = spelled_name(path)
+        if spelled in self._names:
+            return spelled
+        name, (folder, last) = absolute_name(path), os.path.split(spelled)
+        for place in (os.path.join(absolute_name(folder), last), name):
+            if place in self._names or place in self._led:
+                return place if place in self._names else self._led[place]
+        return name
+
+
+@dataclass(frozen=True)
+class Output:
+    """What LOG has of a name below OUT: of which file the output is, the SHA-256 of each that may stand there as a run's own, and that of the one that
+    was written last, where there is one; when that was about to be placed, and in the place of what."""
+
+    source: str
+    own: FrozenSet[str] = frozenset()
+    newest: Optional[str] = None
+    at_ns: int = 0
+    stood: State = None
+    # What was written last, of a name that isn't only one of notes.
+    last: Optional[Made] = None
+    # What was known until then, which holds again where that is never placed.
+    before: Optional["Output"] = None
+
+
 class TreeLog(Log):
     """LOG, which knows what was made of a content, and which files below OUT it made."""
 
@@ -91,21 +140,27 @@ class TreeLog(Log):
         if os.path.islink(path):
             raise ToolError(f"{one_line(path)} is a link", Exit.EXISTS)
         self._of_content: Dict[str, Made] = {}
-        self._own: Dict[Tuple[str, str], Set[str]] = {}
-        self._last: Dict[str, Made] = {}
-        # Of each name the SHA-256 of what was written last, and when that was about to be placed and in the place of what.
-        self._newest: Dict[str, Optional[str]] = {}
-        self._stood: Dict[str, Tuple[int, State]] = {}
+        self._outputs: Dict[str, Output] = {}
         self._whole: Set[Tuple[str, str]] = set()
-        # Of which file the last output of each name is.
-        self._source_of: Dict[str, str] = {}
         # Of which contents each output is, by its name and its own.
         self._contents_of: Dict[Tuple[str, str], Set[str]] = {}
+        # Why LOG can't be on the disk, which is its fault once all is taken back that wasn't placed.
+        self._unsynced = ""
+        self._names: Set[str] = set()
+        self._places = Places(self._names)
         super().__init__(path, tell_fault, mode)
+
+    def begin(self, program: str) -> None:
+        super().begin(program)
+        self._places = Places(self._names)
+
+    def name_of(self, path: str) -> str:
+        return self._places.name_of(path)
 
     def take_line(self, told: Dict[str, Any], is_current: bool) -> None:
         made = read_made(told.get("made"))
         super().take_line(told, is_current)
+        self._names.add(told["absolute"])
         if made is None:
             return
         self._note(made, told["absolute"], told.get("sha256"))
@@ -114,50 +169,56 @@ class TreeLog(Log):
             self._of_content[told["sha256"]] = bare(made)
 
     def _note(self, made: Made, source: str, content: Optional[str]) -> None:
-        """Knows again what was written of a file of such a name and content, and under which names."""
+        """Knows again what was written of a file of such a name and content, and under which names; or that it wasn't placed."""
         if made.foreign:
             return
         for (name, digest), stood in zip(names_of(made), made.stood or (None, None)):
-            self._newest[name] = digest
-            self._stood[name] = made.at_ns or 0, stood
-            # (what stood there before is no run's any more: somebody who puts it back wants it there)
-            if made.placed:
-                self._own.pop((name, source), None)
-            before = self._source_of.setdefault(name, source)
-            if before != source:
-                self._own.pop((name, before), None)
-                self._source_of[name] = source
+            if made.placed is False:
+                self._take_back(name, digest, made, source, stood)
+                continue
+            self._take_output(name, digest, made, source, stood)
             if digest is not None:
-                self._own.setdefault((name, source), set()).add(digest)
                 self._contents_of.setdefault((name, digest), set()).add(content or "")
         if made.is_whole:
             self._whole.add((made.output, made.sha256))
-        self._last[made.output] = bare(made)
+
+    def _take_output(self, name: str, digest: Optional[str], made: Made, source: str, stood: State) -> None:
+        """Knows what was written last at a name, of this file and no other."""
+        old = self._outputs.get(name)
+        # (what stood there before what is placed is no run's any more: somebody who puts it back wants it there)
+        own = old.own if old is not None and old.source == source and not made.placed else frozenset()
+        last = bare(made) if name == made.output else None if old is None else old.last
+        before = None if old is None else replace(old, before=None)
+        self._outputs[name] = Output(source, own if digest is None else own | {digest}, digest, made.at_ns or 0, stood, last, before)
+
+    def _take_back(self, name: str, digest: Optional[str], made: Made, source: str, stood: State) -> None:
+        """Knows what was known of a name before what was never placed there. What stood there stands there again, and was touched."""
+        known = self._outputs.pop(name, None)
+        if known is not None and (known.source, known.newest) == (source, digest):
+            known = known.before
+        if known is not None:
+            self._outputs[name] = replace(known, at_ns=made.at_ns or 0) if known.stood == stood else known
 
     def recovered_of(self, digest: Optional[str]) -> Optional[Made]:
         """What this program recovered of a content."""
         return self._of_content.get(digest or "")
 
-    def written(self) -> Dict[str, List[str]]:
-        """The names below OUT that runs wrote, and of which files they wrote each."""
-        found: Dict[str, List[str]] = {}
-        for name, source in self._own:
-            if name in self._last:
-                found.setdefault(name, []).append(source)
-        return found
+    def written(self) -> Dict[str, str]:
+        """The names below OUT that runs wrote, and of which file each is."""
+        return {name: known.source for name, known in self._outputs.items() if known.last is not None}
 
     def is_own(self, name: str, digest: str, source: str, there: Optional[os.stat_result]) -> bool:
         """Whether a run wrote a file of such a name and content below OUT, of this source and no other, and none has put another in its place: it is what
         was written last, or what stood there before where that was never placed, and nobody touched since."""
-        if digest not in self._own.get((name, source), ()):
+        known = self._outputs.get(name)
+        if known is None or known.source != source or digest not in known.own:
             return False
-        if digest == self._newest.get(name):
+        if digest == known.newest:
             return True
-        at_ns, stood = self._stood[name]
-        if there is None or stood is None or stood != state_of(there):
+        if there is None or known.stood is None or known.stood != state_of(there):
             return False
         # (notes are moved aside, and perhaps put back)
-        return name not in self._last or there.st_ctime_ns <= at_ns
+        return known.last is None or there.st_ctime_ns <= known.at_ns
 
     def is_of(self, name: str, digest: str, content: Optional[str]) -> bool:
         """Whether a run wrote a file of such a name and content below OUT, of a source of this content."""
@@ -167,48 +228,69 @@ class TreeLog(Log):
         """Whether a run wrote a file of such a name and content below OUT, as a copy of what was whole."""
         return (name, digest) in self._whole
 
-    def add(self, line: Line, stood: Optional[Tuple[State, State]] = None) -> None:
-        """Keeps what is known of a content, and what was written of it and in the place of what, where LOG doesn't have that."""
-        # (a content that this run has met is added again where it stands twice)
-        is_known = line.sha256 is None or line.verdict == "failed" or self.of_content(line.sha256) is not None
-        if is_known and (line.made is None or self._has(line.made, line.source)):
-            return
-        self.keep(line, stood)
+    def is_changed(self, line: Line) -> bool:
+        """Whether a file has another content than LOG had first of its size and time."""
+        return self.as_changed(key_of(line), line) is not None
+
+    def add(self, line: Line, stood: Optional[Tuple[State, State]] = None) -> bool:
+        """Keeps what is known of a content, and what is about to be placed of it and in the place of what, where LOG doesn't have that. Whether it
+        didn't."""
+        if self._is_known(line) and (line.made is None or self._has(line.made, line.source) and self._has_time(line)):
+            return False
+        self._keep(line, None if line.made is None else replace(line.made, at_ns=time.time_ns(), stood=stood))
+        return True
+
+    def _is_known(self, line: Line) -> bool:
+        """Whether LOG has what a content is found to be, or that the file changed to it by itself. (A content that this run has met is added again where
+        it stands twice.)"""
+        if line.sha256 is None or line.verdict == "failed" or self.of_content(line.sha256) is not None:
+            return True
+        key = key_of(line)
+        return key in self._current and self._known[key].sha256 == line.sha256
 
     def _has(self, made: Made, source: str) -> bool:
         """Whether LOG has it that this was written last, and of this file: one of another folder may have the same content."""
-        return self._last.get(made.output) == made and self._source_of.get(made.output) == source
+        known = self._outputs.get(made.output)
+        return known is not None and (known.last, known.source) == (made, source)
 
-    def keep(self, line: Line, stood: Optional[Tuple[State, State]]) -> None:
-        """Keeps what is known of a content, and what is about to be placed of it, in the place of what."""
-        self._keep(line, None if line.made is None else replace(line.made, at_ns=time.time_ns(), stood=stood))
+    def _has_time(self, line: Line) -> bool:
+        """Whether LOG has the size and time of a file, by which it sees that the content changes by itself; or can't have it yet."""
+        return not line.settled or key_of(line) in self._known
+
+    def take_back(self, line: Line, stood: Tuple[State, State], is_added: bool) -> None:
+        """Keeps it that what was about to be placed wasn't, and that what stood there was touched; of what an earlier run was about to place, where LOG had
+        that already, nobody knows."""
+        if line.made is not None and (is_added or stood != (None, None)):
+            self._keep(line, replace(line.made, placed=False if is_added else None, at_ns=time.time_ns(), stood=stood))
+        if self._unsynced and not self.fault:
+            self.fault = self._unsynced
+            self._tell_fault()
 
     def stands(self, line: Line) -> None:
         """Keeps it that what was written of a file stands, where runs wrote other outputs of it before."""
         if line.made is None:
             return
-        made = line.made
-        if any(self._own.get((name, line.source), set()) - {digest} for name, digest in names_of(made)):
-            self._keep(line, replace(made, placed=True))
+        known = [(self._outputs.get(name), digest) for name, digest in names_of(line.made)]
+        if any(one is not None and one.source == line.source and one.own.difference((digest,)) for one, digest in known):
+            self._keep(line, replace(line.made, placed=True))
 
     def stands_by_another(self, line: Line) -> None:
         """Keeps what is known of a content, of which somebody else put there what would be written."""
         made = None if line.made is None or line.made.notes is None else replace(line.made, foreign=True)
-        is_known = line.sha256 is None or self.of_content(line.sha256) is not None
-        if not is_known or made is not None and self.recovered_of(line.sha256) is None:
+        if not self._is_known(line) or made is not None and self.recovered_of(line.sha256) is None:
             self._keep(line, made)
 
     def _keep(self, line: Line, made: Optional[Made]) -> None:
         """Keeps a line."""
         row = Kept(**{one.name: getattr(line, one.name) for one in fields(Row)}, made=made)
-        self.add_line(line.source, self.as_changed((line.source, row.bytes or 0, row.mtime_ns or 0), row) or row)
+        self.add_line(line.source, self.as_changed(key_of(line), row) or row)
         if made is not None:
             self._note(made, line.source, line.sha256)
 
-    def sync(self) -> None:
-        """Sees to it that what was added is on the disk, before what it tells of is."""
+    def sync(self) -> str:
+        """Sees to it that what was added is on the disk, before what it tells of is; why that can't be, or nothing."""
         try:
             os.fsync(self._file.fileno())
         except OSError as fault:
-            self.fault = self.fault or str(fault.strerror)
-            self._tell_fault()
+            self._unsynced = str(fault.strerror)
+        return self.fault or self._unsynced

@@ -22,6 +22,7 @@ from .rows import Row
 from .statuses import Status
 from .temporary import TemporaryFault
 from .versions import LIMIT, OURS, VERSIONS
+from .walking import is_called_drawing
 
 VERSION = re.compile(rb"AC[0-9]{4}")
 
@@ -95,6 +96,9 @@ class Checker:
     def found(self, file: IO[bytes], content: IO[bytes], row: Row) -> Row:
         """The line of an open file by its content."""
         known = self.log.of_content(row.sha256) if self.log and row.sha256 else None
+        # (what isn't called a drawing isn't looked at as closely)
+        if known and known.verdict == "no drawing" and is_called_drawing(row.path) and not is_called_drawing(known.path):
+            known = None
         failed = None
         if known:
             row = replace(known, path=row.path, mtime_ns=row.mtime_ns, settled=row.settled)
@@ -149,8 +153,10 @@ class Checker:
             self.judge_drawing(file, row, prefix)
 
     def judge_version(self, file: IO[bytes], row: Row, prefix: bytes) -> None:
-        """The verdict of a file that begins as a drawing of another version."""
+        """The verdict of a file that begins as a drawing of another version. One that no program writes may have been a drawing that is read."""
         why = self.rest_of_header(prefix)
+        if not why and prefix[:6] not in VERSIONS:
+            why = section_of_drawing(bytes_of(file, PREFIX + LIMIT))
         if why:
             row.verdict, row.refusal, row.version = "damaged", Refusal("header", 0, 0, "version"), ""
             row.detail = f"{row.refusal} ({why})"
@@ -162,14 +168,18 @@ class Checker:
         """The verdict of a file that begins as no drawing."""
         kind = looks_like(prefix)
         row.verdict, row.detail = "no drawing", kind or "unknown bytes"
-        if kind not in (None, "zero bytes"):
+        is_other = kind not in (None, "zero bytes")
+        # (an archive may have many pictures and documents; what is called a drawing may have been one whose first bytes are another file's)
+        if is_other and not is_called_drawing(row.path):
             return
         data = bytes_of(file, PREFIX + LIMIT)
-        if kind:
+        if is_other and is_text(data):
+            return
+        if kind == "zero bytes":
             row.detail = zeros_of(data, row.bytes or 0)
         inner = inner_drawing(data)
         if inner:
-            row.detail = inner
+            row.detail = row.detail if is_other else inner
             return
         why = self.rest_of_header(data) or section_of_drawing(data)
         if not why and row.bytes is not None and row.bytes > LIMIT:

@@ -6,6 +6,7 @@ import argparse
 import collections
 import os
 import re
+import stat
 import sys
 import threading
 from dataclasses import dataclass
@@ -13,7 +14,8 @@ from typing import IO, Deque, Iterable, Iterator, List, Optional, Sequence, Set,
 
 from .patterns import compiled
 from .statuses import Exit, ToolError
-from .streams import as_file, is_one_file, outputs, refuse_pipes, refuse_streams
+from .streams import as_file, is_any_version, is_one_file, outputs, refuse_pipes, refuse_streams, status_at
+from .versions import MOST_HEADER
 
 
 @dataclass(frozen=True)
@@ -24,8 +26,8 @@ class Named:
     fault: Optional[str] = None
 
 
-class Word(Named):
-    """A file that a word names itself."""
+class Linked(Named):
+    """A file of a folder that stands there by a link, its own or one on its way; or a link that standard input names."""
 
 
 # What the names of drawings end with.
@@ -98,21 +100,33 @@ def nothing_found(walk: Walk, what: str) -> str:
     return f"nothing was found to {what}" + ("" if walk.every else f"; of folders only {taken} is taken, and --all takes every file")
 
 
+@dataclass(frozen=True)
+class Entry:
+    """What is to be looked at of a folder: whether it is a folder, and whether a link leads there."""
+
+    path: str
+    is_folder: bool
+    is_linked: bool
+
+
 def walked(folder: str, walk: Walk, seen: Optional[Set[Tuple[int, int]]] = None) -> Iterator[Named]:
     """The files of a folder and of those in it, in order of name. Symbolic links are passed; where they are followed each real folder is walked once,
     by the first name that leads to it, and none that was seen before."""
     seen = set() if seen is None else seen
-    left = [(folder, True)]
+    left = [Entry(folder, True, False)]
     while left:
-        path, is_folder = left.pop()
-        if not is_folder:
-            yield Named(path)
+        one = left.pop()
+        if not one.is_folder:
+            yield (Linked if one.is_linked else Named)(one.path)
             continue
+        listed: List[Entry] = []
         try:
-            if not walk.follow or is_first(path, seen):
-                left += reversed(list(entries_of(path, walk, folder)))
+            if not walk.follow or is_first(one.path, seen):
+                for entry in entries_of(one, walk, folder):
+                    listed.append(entry)
         except OSError as fault:
-            yield Named(path, str(fault.strerror))
+            yield Named(one.path, str(fault.strerror))
+        left += reversed(listed)
 
 
 def is_first(folder: str, seen: Set[Tuple[int, int]]) -> bool:
@@ -144,15 +158,23 @@ def is_link(entry: "os.DirEntry[str]") -> bool:
         return False
 
 
-def entries_of(folder: str, walk: Walk, top: str) -> Iterator[Tuple[str, bool]]:
-    """What is to be looked at of a folder, in order of name, and whether it is a folder."""
-    with os.scandir(folder) as entries:
-        found = sorted((entry for entry in entries if not walk.leaves_out(entry, top)), key=lambda entry: os.fsencode(entry.name))
-    for entry in found:
+def entries_of(folder: Entry, walk: Walk, top: str) -> Iterator[Entry]:
+    """What is to be looked at of a folder, in order of name. Where its list breaks off, as by a damaged disk, that fault comes after what was listed."""
+    found: List["os.DirEntry[str]"] = []
+    broken: Optional[OSError] = None
+    with os.scandir(folder.path) as entries:
+        try:
+            for entry in entries:
+                found.append(entry)
+        except OSError as fault:
+            broken = fault
+    for entry in sorted((one for one in found if not walk.leaves_out(one, top)), key=lambda one: os.fsencode(one.name)):
         is_one = is_folder(entry, walk.follow)
         # (what may be a folder is told, whatever it is called)
         if is_one or is_one is None or walk.takes(entry):
-            yield entry.path, bool(is_one)
+            yield Entry(entry.path, bool(is_one), folder.is_linked or is_link(entry))
+    if broken is not None:
+        raise broken
 
 
 # How much of a name is taken; no file has one of half as many bytes.
@@ -190,7 +212,8 @@ def all_named(words: Iterable[str], walk: Walk, end: bytes, given: Optional[List
             if os.path.isdir(path):
                 yield from walked(path, walk, seen)
             else:
-                yield Word(path)
+                # (of names that are read nobody chose each)
+                yield (Linked if word == "-" and os.path.islink(path) else Named)(path)
 
 
 def status_of(path: str) -> Optional[os.stat_result]:
@@ -206,6 +229,35 @@ def without_new(found: Iterable[Named], new: Sequence[os.stat_result]) -> Iterat
     for named in found:
         if not new or not any(is_one_file(own, status_of(named.path)) for own in new):
             yield named
+
+
+# What is said of a link to standard output or error, or to another output.
+WRITTEN = "it is standard output or error, or another output"
+
+
+def has_drawing(path: str, walk: Walk) -> bool:
+    """Whether a regular file is a drawing, by its own name or by how it begins."""
+    try:
+        if os.path.realpath(path).lower().endswith(walk.endings):
+            return True
+        # (a pipe that takes its place meanwhile isn't waited for)
+        with open(path, "rb", opener=lambda name, flags: os.open(name, flags | os.O_NONBLOCK)) as file:
+            return is_any_version(file.read(MOST_HEADER))
+    except OSError:
+        return True
+
+
+def without_outputs(found: Iterable[Named], walk: Walk, more: Optional[os.stat_result] = None) -> Iterator[Named]:
+    """The files, of which those can't be read that are standard output or error, or another output, by a link that stands in a folder: whoever may make
+    one ends no run. A drawing, into which nothing may be written, is refused all the same."""
+    own = [one for one in (status_at(None, 1), status_at(None, 2), more) if one is not None and not stat.S_ISCHR(one.st_mode)]
+    for named in found:
+        there = status_of(named.path) if own and isinstance(named, Linked) else None
+        is_own = there is not None and any(os.path.samestat(one, there) for one in own)
+        if there is None or not is_own or stat.S_ISREG(there.st_mode) and has_drawing(named.path, walk):
+            yield named
+        else:
+            yield Named(named.path, WRITTEN)
 
 
 # How much memory the files take at the most that are known before they are checked, and how much one takes beside its name.
@@ -306,6 +358,6 @@ def files_of(options: argparse.Namespace) -> Union[Coming, List[Named]]:
         refuse_streams(streams)
         refuse_pipes(options.files)
         return Coming(found)
-    named = list(held(found) if "-" in options.files else found)
-    refuse_streams([*streams, *(as_file(one.path) for one in named)])
+    named = list(without_outputs(held(found) if "-" in options.files else found, walk_of(options)))
+    refuse_streams([*streams, *(as_file(one.path) for one in named if one.fault is None)])
     return named

@@ -70,3 +70,12 @@ def absolute_name(path: str) -> str:
         return os.path.join(absolute_name(os.curdir), path)
     except (OSError, ValueError):
         return path
+
+
+def spelled_name(path: str) -> str:
+    """The whole name of a file as it is spelled: links in it aren't gone through, but for those before the last `..`, which leads up from there."""
+    parts = [part for part in path.split(os.sep) if part not in ("", os.curdir)]
+    ups = [index for index, part in enumerate(parts) if part == os.pardir]
+    begin = os.sep if path.startswith(os.sep) else os.curdir
+    cut = ups[-1] + 1 if ups else 0
+    return os.path.join(absolute_name(os.path.join(begin, *parts[:cut])), *parts[cut:])

@@ -85,7 +85,7 @@ class Standing(common.InFolder):
         certificates = Certificates(str(self.log), told.append)
         path.write_bytes(b"another")
         with unittest.mock.patch.object(certificates, "has", return_value=False):
-            certificates.kept(Program(os.environ.get("DWG", "")), Row(str(self.archive / "1.dwg"), "sound", sha256=path.stem))
+            certificates.kept(Program(made.PROGRAM), Row(str(self.archive / "1.dwg"), "sound", sha256=path.stem))
         self.assertEqual((told, path.read_bytes()), ([f"{self.certificates}: {path.name} is another file"], b"another"))
         certificates.close()
 

@@ -238,6 +238,12 @@ def add_lost_header(files: Files, data: bytes) -> None:
     # The first sector takes the objects along that begin in it; where it ends inside one, the frames after that are whole.
     kept = sum(frame.place >= 512 for frame in layout(data).frames)
     files.add("no sector.dwg", hole(data, 0, 512), damaged(f"header 0 at 0: version (recover keeps {kept} objects)", version=""))
+    # Or there is what another file begins with.
+    for name, begin in (("picture", b"\xff\xd8\xff\xe0"), ("paper", b"%PDF-1.4\n"), ("packed", b"PK\3\4"), ("text", b"text\r\n" * 11000)):
+        others = begin * 512
+        files.add(f"begin of {name}.dwg", others[: max(100, len(begin))] + data[100:], damaged(f"header 0 at 0: version (classes at {max(100, len(begin)) + 8})", version=""))
+        files.add(f"sector of {name}.dwg", others[: max(512, len(begin))] + data[512:], damaged(f"header 0 at 0: version (recover keeps {kept} objects)", version=""))
+    files.add("no such version.dwg", flipped(flipped(data, 3, 2), 40, 1), damaged("header 0 at 0: version (header variables at 70)", version=""))
 
 
 def add_others(files: Files) -> None:
@@ -610,6 +616,25 @@ class Check(Base):
             found = list(walked(str(self.folder), Walk()))
         self.assertEqual(found, [Named(str(self.folder / name)) for name in ("a.dwg", "b.dwg", "c.dwg")])
 
+    def test_a_folder_of_which_the_list_breaks_off(self) -> None:
+        """What was listed is looked at, and the folder has a line."""
+        self.some(["a.dwg", "b.dwg", "c/d.dwg"])
+        listed = os.scandir
+
+        @contextlib.contextmanager
+        def scandir(folder: str) -> Iterator[Iterator[Any]]:
+            def breaking(names: List[Any]) -> Iterator[Any]:
+                yield from names
+                if folder == str(self.folder):
+                    raise OSError(errno.EIO, "Input/output error")
+
+            with listed(folder) as entries:
+                yield breaking(list(entries))
+
+        with unittest.mock.patch("os.scandir", scandir):
+            found = list(walked(str(self.folder), Walk()))
+        self.assertEqual(found, [Named(str(self.folder), "Input/output error"), *(Named(str(self.folder / name)) for name in ("a.dwg", "b.dwg", "c/d.dwg"))])
+
     def test_order(self) -> None:
         paths = self.some([f"{index:02}.dwg" for index in range(40)], 1)
         (self.folder / "00.dwg").write_bytes(made.made(3000))
@@ -961,6 +986,34 @@ class Logs(Base):
         self.assertEqual((ran.returncode, ran.stdout, empty.read_bytes()), (73, b"", b""), ran.stderr)
         self.assertIn(b"is a file to check, and LOG too", ran.stderr)
 
+    def test_what_is_called_a_drawing_is_looked_at_more_closely(self) -> None:
+        """Though LOG knows its content by another name, by which it isn't."""
+        data = b"\xff\xd8\xff\xe0" * 128 + made.made(30)[512:]
+        for name in ("a.jpg", "b.dwg", "c.jpg"):
+            (self.folder / "d").mkdir(exist_ok=True)
+            (self.folder / "d" / name).write_bytes(data)
+        for options in ([], ["--resume", self.log]):
+            for _ in range(2):
+                ran = tool("dwg-check", "--quiet", "--all", *options, self.folder / "d")
+                self.assertEqual([line[1] for line in self.verdicts(ran)], ["no drawing", "damaged", "no drawing"], options)
+
+    def test_log_by_the_name_of_a_drawing_in_a_folder(self) -> None:
+        """It has a line, and ends no run. By another name it is passed, also where LOG is a link to it."""
+        self.some(["d/a.dwg"])
+        self.assertEqual(tool("dwg-check", "--quiet", "--fixity", self.log, self.folder / "d").returncode, 0)
+        os.link(self.log, self.folder / "d" / "hard.dwg")
+        (self.folder / "d" / "symbolic.dwg").symlink_to(self.log)
+        for words, names in (([], ["hard.dwg"]), (["--follow"], ["hard.dwg", "symbolic.dwg"])):
+            for options in ([], ["--fixity", self.log, "--verify"]):
+                ran = tool("dwg-check", "--quiet", *words, *options, self.folder / "d") if options else self.resume(*words)
+                lines = [line.split("\t")[:3] for line in ran.stdout.decode().replace(f"{self.folder}/d/", "").splitlines()[1:]]
+                self.assertEqual((ran.returncode, lines), (68 if options else 1, [["a.dwg", "same" if options else "sound", ""], *([name, "unreadable", "it is LOG"] for name in names)]), (words, options))
+        for name in ("hard.dwg", "symbolic.dwg"):
+            (self.folder / "d" / name).unlink()
+        os.rename(self.log, self.folder / "d" / "log")
+        self.log.symlink_to("d/log")
+        self.assertEqual(self.resume("--all").returncode, 0)
+
     def test_log_is_of_the_program_that_answers(self) -> None:
         """A file at the top of a checkout answers itself; its launcher alone answers by what the checkout has built."""
         path, launcher = self.some(["a.dwg"])[0], made.TOP / "dwg"
@@ -1155,7 +1208,6 @@ class Logs(Base):
         wrong += [{"refusal": {"part": "objects", "index": index, "place": place, "reason": "check"}} for index, place in ((-1, 2), (1, -2), (True, 2))]
         wrong += [{"preview": {"bytes": 9, "pictures": [{"code": code, "bytes": size}]}} for code, size in ((-1, 1), (256, 1), (2, -1), (2, True))]
         wrong += [{name: value} for name in ("path", "absolute") for value in ("\0", "/a\0", "/\ud800", "/\udc7f", "/\udd80")]
-        wrong += [{"link": value} for value in (7, True, "\0", "/\ud800", ["/a"])]
         damaged = [made.log_of([{**row, **more}]) for more in wrong]
         damaged += [b"[" * 200_000 + b"\n", b'{"bytes":' * 20_000 + b"\n", b"9" * 100_000 + b"\n", b"x" * 1_000_000 + b"\n", b"\xff\0\n", b"\n", b"null\n", b"[]\n", one[:-20] + b"\n"]
         odd = made.log_of([{**row, "absolute": "/nowhere", "detail": "\ud800\udfff\udc80", "path": "\udc80"}])

@@ -22,6 +22,7 @@ from made import TOOLS, dwg, program_that, tool
 
 from dwgtools.certificates import Certificates
 from dwgtools.comparing import Comparer, Kept, Missing, change_of
+from dwgtools.inputs import is_hollow
 from dwgtools.program import Program
 from dwgtools.rows import Row
 from dwgtools.versions import LIMIT
@@ -244,14 +245,13 @@ class Fixity(common.InFolder):
             self.file("d/b.dwg", made.made(30))
             self.assertEqual([test_safety.in_bash(unfinished[3], self.log, self.archive).returncode, self.keep().returncode], [70, 1])
 
-    def test_a_link_leads_where_it_led_until_it_is_told(self) -> None:
-        """Whatever else is told of its file, or couldn't be read of it for a while."""
+    def test_a_name_has_what_it_led_to_until_it_is_told(self) -> None:
+        """Whatever else is told of the file to which a link leads, or couldn't be read by it for a while."""
         for at, name in enumerate(("a.dwg", "b.dwg")):
             self.file(name, made.made(40 + at))
         link = self.archive / "l.dwg"
         link.symlink_to("../a.dwg")
         self.keep(self.archive, link)
-        led = f"changed it led to {self.folder}/a.dwg"
 
         def lead(target: str) -> None:
             link.unlink()
@@ -260,17 +260,18 @@ class Fixity(common.InFolder):
         lead("../n.dwg")
         self.keep(self.archive, link)
         self.file("n.dwg", made.made(50))
-        self.assertEqual((self.compared(link)["l.dwg"], self.keep(link).stderr), (led, self.other("l.dwg")))
-        # A file that LOG has is told, though its content is that of the file to which the link led.
+        self.assertEqual((self.compared(link)["l.dwg"], self.keep(link).stderr), (f"changed it had {len(made.made(40))} bytes", self.other("l.dwg")))
+        # The file by its own name is another one of LOG.
         self.keep(self.folder / "b.dwg")
         self.file("b.dwg", made.made(50))
         lead("../b.dwg")
-        said = f"dwg-check: {self.log}: 1 of its files have another content now, which it takes; the first is {self.folder}/b.dwg\n"
-        self.assertEqual(self.keep(link).stderr.decode(), said)
+        self.assertEqual(self.keep(link).stderr, b"")
+        self.assertEqual({path: said for path, said in self.compared(link).items() if said != "same"}, {str(self.folder / "b.dwg"): f"changed it had {len(made.made(41))} bytes"})
+        self.assertEqual(self.keep(self.folder / "b.dwg").stderr.decode(), f"dwg-check: {self.log}: 1 of its files have another content now, which it takes; the first is {self.folder}/b.dwg\n")
         # A new link to a file that changed is kept too.
         (self.archive / "m.dwg").symlink_to("../b.dwg")
         self.file("b.dwg", made.made(51))
-        self.keep(self.archive / "m.dwg", self.folder / "b.dwg")
+        self.keep(self.archive / "m.dwg", link, self.folder / "b.dwg")
         self.assertEqual(self.compare().returncode, 0)
         (self.archive / "m.dwg").unlink()
         self.assertEqual(self.compared()["m.dwg"], "missing")
@@ -302,6 +303,15 @@ class Fixity(common.InFolder):
         ran = tool("dwg-check", "--quiet", "--resume", self.log, "--verify", self.archive)
         self.assertIn(f"{large}\tchanged\t".encode(), ran.stdout)
         self.assertEqual(self.compared()["z.dwg"], "changed of the same size and time")
+
+    def test_holes_that_a_file_system_does_not_tell(self) -> None:
+        """It calls all of a file data, and tells that it has nothing of it. What is read in minutes is read."""
+        seek = os.lseek
+        untold = lambda handle, at, how: at if how == os.SEEK_DATA else os.fstat(handle).st_size if how == os.SEEK_HOLE else seek(handle, at, how)
+        with open(self.folder / "holes", "w+b") as file, unittest.mock.patch("os.lseek", untold):
+            for size, is_one in ((1 << 43, True), ((1 << 34) + 1, True), (1 << 34, False)):
+                file.truncate(size)
+                self.assertEqual(is_hollow(file, size), is_one, size)
 
     def test_a_new_link_to_what_is_gone_hides_nothing(self) -> None:
         """It has a line, and so has the file, whether it stands elsewhere or nowhere."""
@@ -654,29 +664,32 @@ class Fixity(common.InFolder):
         self.assertEqual([row[:2] for row in self.said(ran)], [["a.dwg", "same"], ["b.dwg", "new"], ["deep/c.dwg", "new"], [r"o\xffd\n.dwg", "same"], ["x.dwg", "new"]])
 
     def test_a_folder_or_file_that_became_a_link(self) -> None:
-        """What is found under a name of LOG is compared with what LOG has of that name, and each file is told once, by whatever spelling."""
+        """What is found under a name of LOG is compared with what LOG has of that name; what leads there by another name is another file of LOG."""
         self.keep()
         real = self.folder / "real"
         os.rename(self.archive, real)
         self.archive.symlink_to("real")
         names = {name: "same" for name in self.data}
-        for word in (self.archive, real, self.folder / "d" / "deep" / ".." / ".." / "d"):
-            ran = self.compare(word)
-            self.assertEqual([row[1] for row in self.said(ran)], ["same"] * 4, word)
-        self.assertEqual((self.compared(), self.compare(self.archive, real).stdout.count(b"\n")), (names, 5))
+        self.assertEqual((self.compared(), {path.replace("../d/", ""): said for path, said in self.compared(self.folder / "d" / ".." / "d").items()}), (names, names))
+        new = {str(real / name): "new sound" if name != "x.dwg" else "new damaged: file 0 at 0: short" for name in self.data}
+        told = self.compared(real)
+        self.assertEqual(({name: told[name] for name in names}, {name: told[name].split()[0] for name in new}), (names, dict.fromkeys(new, "new")))
         before = self.log.read_bytes()
-        self.assertEqual((self.keep().stderr, self.keep(real).stderr, self.log.read_bytes()), (b"", b"", before))
+        self.assertEqual((self.keep().stderr, self.log.read_bytes()), (b"", before))
+        # By the folder's new name LOG has them too then, and each is told by each name.
+        self.assertEqual((self.keep(real).stderr, self.log.read_bytes()[: len(before)]), (b"", before))
+        self.assertEqual(self.compared(), {**names, **dict.fromkeys(new, "same")})
         self.change("b.dwg")
+        same_size = "changed of the same size and time"
         for words in ([self.archive], [real], [self.archive, real], [self.archive / "b.dwg"]):
-            ran = self.compare(*words)
-            self.assertEqual((ran.returncode, [row[1:] for row in self.said(ran) if row[1] != "same"]), (68, [["changed", "of the same size and time"]]), words)
+            self.assertEqual({name: said for name, said in self.compared(*words).items() if said != "same"}, {"b.dwg": same_size, str(real / "b.dwg"): same_size}, words)
         seen = tool("dwg-check", "--quiet", "--resume", self.log, "--verify", self.archive)
         self.assertEqual((seen.returncode, seen.stdout.count(b"\tchanged\t")), (1, 1))
         self.file("d/b.dwg", self.data["b.dwg"])
         # What is gone beyond the link is gone.
         (real / "deep" / "c.dwg").unlink()
-        for word in (self.archive, real):
-            self.assertEqual(self.keep(word).stderr, self.gone(False, "deep/c.dwg"))
+        self.assertEqual(self.keep().stderr, self.gone(False, "deep/c.dwg"))
+        self.assertIn(f"the first is {real}/deep/c.dwg\n", self.keep(real).stderr.decode())
         # A file that became a link to another of LOG, or to a new one.
         self.file("d/n.dwg", made.made(9))
         for leads in ("a.dwg", "n.dwg"):
@@ -699,29 +712,30 @@ class Fixity(common.InFolder):
         self.keep(*follow, self.archive)
         before = self.log.read_bytes()
         self.assertEqual((self.keep(*follow, self.archive).stderr, self.log.read_bytes()), (b"", before))
-        self.assertEqual((run().returncode, {*told(run(*follow)).values()}), (0, {"same"}))
-        archive = {name: "same" for name in self.data}
+        archive, had = {name: "same" for name in self.data}, f"changed it had {len(self.data['a.dwg'])} bytes"
+        for words in ((), follow, [link], [self.archive]):
+            self.assertEqual((run(*words).returncode, told(run(*words))), (0, {**archive, str(link): "same"}), words)
         for leads in (self.archive / "b.dwg", new):
             link.unlink()
             link.symlink_to(leads)
             for words in ((), follow, [link], (*follow, self.archive), ("--follow", self.archive, links), (self.archive, link)):
                 ran = run(*words)
-                self.assertEqual((ran.returncode, told(ran)), (68, {**archive, str(link): "changed it led to a.dwg"}), words)
+                self.assertEqual((ran.returncode, told(ran)), (68, {**archive, str(link): had}), words)
         # A file of its own in its place is another too, but for one of the same content; so is a link to such a one.
         link.unlink()
         link.write_bytes(made.made(9))
-        self.assertEqual((run().returncode, run(link).returncode, told(run(link))[str(link)]), (68, 68, "changed it led to a.dwg"))
+        self.assertEqual((run().returncode, run(link).returncode, told(run(link))[str(link)]), (68, 68, had))
         link.write_bytes(self.data["a.dwg"])
         self.assertEqual((run().returncode, told(run(link))), (0, {**archive, str(link): "same"}))
         link.unlink()
         link.symlink_to(copy)
         self.assertEqual((run().returncode, run(link).returncode), (0, 0))
-        # A run without --verify has LOG take it as it is, wherever it leads, by the names that it has and by new ones.
+        # A run without --verify has LOG take what it leads to, and tells it.
+        other = f"dwg-check: {self.log}: 1 of its files have another content now, which it takes; the first is {link}\n"
         for leads in (self.archive / "b.dwg", new, self.archive / "b.dwg", self.archive / "a.dwg"):
             link.unlink()
             link.symlink_to(leads)
-            self.assertEqual(run().returncode, 68, leads)
-            self.keep(*follow)
+            self.assertEqual((run().returncode, self.keep(*follow).stderr.decode()), (68, other), leads)
             before = self.log.read_bytes()
             self.assertEqual((run().returncode, run(*follow).returncode, self.keep(*follow).stderr, self.log.read_bytes()), (0, 0, b"", before), leads)
         # One that is gone, or leads to nothing.
@@ -733,6 +747,20 @@ class Fixity(common.InFolder):
         link.write_bytes(made.made(8))
         self.keep(link)
         self.assertEqual((run().returncode, told(run())[str(link)]), (0, "same"))
+
+    def test_a_log_of_an_older_tool_that_has_links(self) -> None:
+        """Its names are those to which links led. They stay names, and are compared; what the words name by a link is new."""
+        self.keep()
+        head, *lines = self.lines()
+        link = self.folder / "link"
+        link.symlink_to("d")
+        self.log.write_bytes(made.log_of([head, *({**line, "path": str(link / os.path.relpath(line["path"], self.archive)), "link": str(link / os.path.relpath(line["path"], self.archive))} for line in lines)]))
+        names = {name: "same" for name in self.data}
+        self.assertEqual(self.compared("--", self.archive / "a.dwg"), names)
+        told = self.compared(link)
+        self.assertEqual({name: said.split()[0] for name, said in told.items()}, {**names, **{str(link / name): "new" for name in names}})
+        self.change("b.dwg")
+        self.assertEqual(self.compared(link)["b.dwg"], "changed of the same size and time")
 
     def test_a_replaced_file_beyond_a_new_link_is_changed_for_resume_too(self) -> None:
         """One that is sound, of the same size and time."""

@@ -583,10 +583,10 @@ class Runs(common.InFolder):
         files = {**common.foreign(), "zip.dwg": zip_, "zeros": bytes(700), "AC1018": b"AC1018" + bytes(700), "AC1099": b"AC1099" + bytes(99), "in.dwg": b"MAC\0" + drawn(3, 1), "cut": cut}
         paths = [self.file(name, data) for name, data in files.items()]
         checked = [line.split("\t") for line in tool("dwg-check", "--quiet", *paths).stdout.decode().splitlines()[1:]]
-        expected = [f"dwg-info: {path}: {verdict}: {detail}{rest if path.endswith(('zeros', 'random')) else ''}" for path, verdict, detail, *_ in checked]
+        expected = [f"dwg-info: {path}: {verdict}: {detail}{rest if path.endswith(('zeros', 'random', 'zip.dwg')) else ''}" for path, verdict, detail, *_ in checked]
         status, out, said = answer(*paths)
         self.assertEqual((status, out, said.splitlines()), (3, b"", expected))
-        for name, told in (("AC1018", "other version: AC1018 2004"), ("zip.dwg", "no drawing: zip archive"), ("AC1032", "damaged: header 0 at 0: version (the rest of the header is that of AC1015)")):
+        for name, told in (("AC1018", "other version: AC1018 2004"), ("zip.dwg", f"no drawing: zip archive{rest}"), ("AC1032", "damaged: header 0 at 0: version (the rest of the header is that of AC1015)")):
             for words in ((name,), ("--preview", "-", name)):
                 path = self.folder / words[-1]
                 self.assertEqual(answer(*words[:-1], path)[2].replace("dwg-info: ", ""), f"{path}: {told}\n", words)
@@ -666,8 +666,8 @@ class Folders(common.InFolder):
         locked, entries_of = str(self.top / "a" / "locked"), walking.entries_of
         os.mkdir(locked)
 
-        def entries(folder: str, walk: walking.Walk, top: str) -> Iterator[Tuple[str, bool]]:
-            if folder == locked:
+        def entries(folder: walking.Entry, walk: walking.Walk, top: str) -> Iterator[walking.Entry]:
+            if folder.path == locked:
                 raise PermissionError(13, "Permission denied")
             return entries_of(folder, walk, top)
 

@@ -2,6 +2,7 @@
 
 from __future__ import annotations
 
+import hashlib
 import os
 import pathlib
 import random
@@ -106,24 +107,29 @@ class Names(common.InFolder):
         self.assertEqual((self.keep(self.folder / "d"), self.compare(self.folder / "d")[0]), ([], 0))
 
     def test_a_folder_that_leads_elsewhere_while_a_file_is_read(self) -> None:
-        """Nobody knows then of which of both files the line is."""
+        """What is told by the name is of the file that was opened by it; a certificate would be of the other one."""
         one, other = self.volume("one", "a.dwg"), self.volume("other", "b.dwg")
         os.rename(other / "b.dwg", other / "a.dwg")
         (self.folder / "current").symlink_to("one")
+        path, content = self.folder / "current" / "a.dwg", hashlib.sha256((one / "a.dwg").read_bytes()).hexdigest()
         switch = f"ln -sfn other {self.folder}/current.new && mv -T {self.folder}/current.new {self.folder}/current"
-        switching = program_that(self.folder, "switching", [f'[ "$1" != audit ] || {{ {switch}; }}', 'exec "$REAL" "$@"'])
-        for options in (["--resume", self.log], ["--fixity", self.log], ["--fixity", self.log, "--verify"]):
-            self.log.unlink(missing_ok=True)
-            if "--verify" in options:
-                self.assertEqual(self.keep(one), [])
+        switching = {command: program_that(self.folder, f"switching_{command}", [f'[ "$1" != {command} ] || {{ {switch}; }}', 'exec "$REAL" "$@"']) for command in ("audit", "accept")}
+        for options, command, said, kept in (
+            (["--resume"], "audit", "sound\t", [(str(path), content)]),
+            (["--fixity"], "audit", "failed\tchanged while it was checked", []),
+            (["--fixity"], "accept", "same\t", [(str(path), content)]),
+        ):
             (self.folder / "current").unlink()
             (self.folder / "current").symlink_to("one")
-            made_by = ["--program", switching] if "--verify" not in options else ["--program", program_that(self.folder, "accepting", [f'[ "$1" != accept ] || {{ {switch}; }}', 'exec "$REAL" "$@"'])]
-            ran = tool("dwg-check", "--quiet", *made_by, *options, self.folder / "current" / "a.dwg")
-            # (a certificate would be of the other file)
-            why = "changed while it was checked" if options[0] == "--fixity" and "--verify" not in options else "its name led to another file while it was read"
-            self.assertIn(f"{self.folder}/current/a.dwg\tfailed\t{why}\t", ran.stdout.decode(), options)
-            self.assertEqual([line["path"] for line in made.read_log(self.log)[1:]], [str(one / "a.dwg")] if "--verify" in options else [], options)
+            if command == "accept":
+                self.assertEqual(self.keep(path), [])
+            words = [*options, self.log, *(["--verify"] if command == "accept" else [])]
+            ran = tool("dwg-check", "--quiet", "--program", switching[command], *words, path)
+            self.assertIn(f"{path}\t{said}\t", ran.stdout.decode(), words)
+            self.assertEqual(os.readlink(self.folder / "current"), "other")
+            self.assertEqual([(line["absolute"], line["sha256"]) for line in made.read_log(self.log)[1:]], kept, words)
+            if command == "audit":
+                self.log.unlink()
 
     def test_a_volume_that_is_away_is_not_forgotten_for_a_copy_elsewhere(self) -> None:
         first, copy = self.volume("first", "a.dwg", "b.dwg"), self.volume("copy", "a.dwg", "b.dwg")
@@ -191,14 +197,15 @@ class Names(common.InFolder):
         gone = "1 of its files are gone, {}; the first is current/b.dwg".format
         self.assertEqual(self.keep(self.folder / "current"), [gone("which it keeps (--forget has it forget them)")])
         self.assertEqual(self.keep("--forget", self.folder / "current"), [gone("and it has them no more")])
-        self.assertEqual(self.compare(), (0, {"first/a.dwg": "same", "first/b.dwg": "same", "current/a.dwg": "same"}))
+        self.assertEqual(self.compare(), (0, {"current/a.dwg": "same"}))
+        self.assertEqual(self.compare(first), (0, {"current/a.dwg": "same", "first/a.dwg": "new sound", "first/b.dwg": "new sound"}))
         self.log.unlink()
         archive = self.volume("archive", "c.dwg")
         (archive / "link").symlink_to(second)
         self.assertEqual(self.keep("--follow", archive), [])
         (second / "a.dwg").unlink()
         self.assertEqual(self.compare(), (68, {"archive/c.dwg": "same", "archive/link/a.dwg": "missing"}))
-        told = "1 of its files are gone, {}; the first is second/a.dwg".format
+        told = "1 of its files are gone, {}; the first is archive/link/a.dwg".format
         self.assertEqual(self.keep("--follow", archive), [told("which it keeps (--forget has it forget them)")])
         # (it may be a volume that isn't mounted)
         self.assertEqual(self.keep("--follow", "--forget", archive), [told("which it keeps (since nothing can be read where they were)")])
@@ -208,20 +215,19 @@ class Names(common.InFolder):
         self.assertEqual((self.compare(), self.keep("--follow", archive)), ((0, there), []))
 
     def test_a_link_that_is_gone_with_its_file_is_told(self) -> None:
-        """Whether the file was moved or is forgotten, LOG has the link until it is told to forget that."""
+        """Each has a name of its own, and the file has one new name, which takes the place of one of them."""
         old, links = self.volume("archive/old", "a.dwg"), self.volume("archive/links", "b.dwg")
         archive = self.folder / "archive"
         (links / "current.dwg").symlink_to("../old/a.dwg")
         self.assertEqual(self.keep("--follow", archive), [])
         old.rename(archive / "new")
         (links / "current.dwg").unlink()
-        missing = "missing"
         status, told = self.compare(archive)
-        self.assertEqual((status, told["archive/links/current.dwg"]), (68, missing))
-        moved = "1 of its files have other names now; the first is archive/old/a.dwg"
-        gone = "1 of its files are gone, {}; the first is archive/links/current.dwg".format
+        self.assertEqual((status, sorted(said.split()[0] for said in told.values())), (68, ["missing", "moved", "same"]), told)
+        moved = "1 of its files have other names now; the first is archive/links/current.dwg"
+        gone = "1 of its files are gone, {}; the first is archive/old/a.dwg".format
         self.assertEqual(self.keep("--follow", archive), [moved, gone("which it keeps (--forget has it forget them)")])
-        self.assertEqual(self.compare(archive)[1]["archive/links/current.dwg"], missing)
+        self.assertEqual(self.compare(archive)[1]["archive/old/a.dwg"], "missing")
         self.assertEqual(self.keep("--follow", "--forget", archive), [gone("and it has them no more")])
         self.assertEqual(self.compare(archive)[0], 0)
         (links / "current.dwg").symlink_to("../new/a.dwg")
@@ -232,7 +238,7 @@ class Names(common.InFolder):
         self.assertEqual(self.keep("--follow", archive), [both("which it keeps (--forget has it forget them)")])
 
     def test_a_file_that_was_a_link_once_is_compared_by_its_own_content(self) -> None:
-        """Also where LOG took it by another link since."""
+        """Also where LOG took it by another name since, which is another file of LOG."""
         first, second = self.volume("v", "a.dwg"), self.volume("w", "b.dwg")
         (first / "f.dwg").symlink_to(second / "b.dwg")
         (self.folder / "a").mkdir()
@@ -240,11 +246,15 @@ class Names(common.InFolder):
         self.assertEqual(self.keep("--follow", first), [])
         (first / "f.dwg").unlink()
         (first / "f.dwg").write_bytes(made.made(40, 40))
-        other = "1 of its files have another content now, which it takes; the first is v/f.dwg"
-        self.assertEqual(self.keep("--follow", self.folder / "a"), [other])
+        self.assertEqual(self.keep("--follow", self.folder / "a"), [])
+        other = f"changed it had {len(DATA['b.dwg'])} bytes"
+        self.assertEqual(self.compare(), (68, {"a/d/a.dwg": "same", "a/d/f.dwg": "same", "v/a.dwg": "same", "v/f.dwg": other}))
+        taken = "1 of its files have another content now, which it takes; the first is v/f.dwg"
+        self.assertEqual((self.keep("--follow", first), self.compare()[0]), ([taken], 0))
         os.replace(shutil.copy(second / "b.dwg", self.folder / "b.dwg"), first / "f.dwg")
-        self.assertEqual(self.compare(first)[1]["v/f.dwg"], "changed it had " + str(len(made.made(40, 40))) + " bytes")
-        self.assertEqual(self.keep("--follow", first), [other])
+        other = "changed it had " + str(len(made.made(40, 40))) + " bytes"
+        self.assertEqual(self.compare()[1], {"a/d/a.dwg": "same", "a/d/f.dwg": other, "v/a.dwg": "same", "v/f.dwg": other})
+        self.assertEqual(self.keep("--follow", first), [taken])
 
     def test_a_link_to_a_file_that_was_moved_is_compared_by_what_it_had(self) -> None:
         volume = self.volume("d", "a.dwg", "b.dwg")
@@ -255,7 +265,7 @@ class Names(common.InFolder):
         for words in ([], [volume], ["--follow", volume]):
             status, told = self.compare(*words)
             self.assertEqual((status, told["d/l.dwg"], told["d/c.dwg"]), (68, "unreadable No such file or directory", "same"), words)
-        for target, said in (("c.dwg", "same"), ("b.dwg", f"changed it led to {volume}/a.dwg".replace(f"{self.folder}/", ""))):
+        for target, said in (("c.dwg", "same"), ("b.dwg", f"changed it had {len(DATA['a.dwg'])} bytes")):
             (volume / "l.dwg").unlink()
             (volume / "l.dwg").symlink_to(target)
             self.assertEqual(self.compare(volume)[1]["d/l.dwg"], said)
@@ -263,6 +273,7 @@ class Names(common.InFolder):
         self.assertEqual(self.compare("--follow", volume)[0], 0)
 
     def test_a_link_that_leads_elsewhere_is_told_where_that_changed_by_itself(self) -> None:
+        """What is put right then with its size and time is the same by its own name, and by the link's what changed by itself."""
         volume = self.volume("d", "a.dwg", "b.dwg")
         (volume / "l.dwg").symlink_to("a.dwg")
         self.assertEqual(self.keep("--follow", volume), [])
@@ -274,8 +285,10 @@ class Names(common.InFolder):
                 (volume / "l.dwg").unlink()
                 (volume / "l.dwg").symlink_to("b.dwg")
                 ran = tool("dwg-check", "--quiet", "--resume", self.log, "--verify", "--follow", volume)
-                self.assertEqual([line.split(b"\t")[1] for line in ran.stdout.splitlines()[1:]], [b"sound", b"changed", b"changed"])
-        self.assertEqual(self.keep("--follow", volume), ["1 of its files have another content now, which it takes; the first is d/l.dwg"])
+                self.assertEqual([line.split(b"\t")[1] for line in ran.stdout.splitlines()[1:]], [b"sound", b"changed", b"damaged"])
+                self.assertIn(b"1 of its files have another content now, which it takes; the first is", ran.stderr)
+        self.assertEqual(self.keep("--follow", volume), [])
+        self.assertEqual(self.compare(), (68, {"d/a.dwg": "same", "d/b.dwg": "same", "d/l.dwg": "changed of the same size and time"}))
 
     def test_a_volume_that_is_not_mounted_is_not_forgotten(self) -> None:
         """Below a folder that is named, or beyond a link in that."""
@@ -307,24 +320,22 @@ class Names(common.InFolder):
         self.assertEqual(self.keep("--forget", "--null", "-", given=os.fsencode(volume / "a.dwg") + b"\0")[:1], [gone])
         self.assertEqual(self.compare(), (0, {"d/b.dwg": "same"}))
 
-    def test_a_link_that_was_another_spelling_of_what_was_forgotten(self) -> None:
-        """It is missing by itself, where LOG has that file no more."""
+    def test_another_spelling_of_what_was_forgotten(self) -> None:
+        """It is missing by itself, as a name of its own."""
         first, second = self.volume("first", "a.dwg", "b.dwg"), self.volume("second", "c.dwg")
-        (self.folder / "current").symlink_to(first)
-        self.assertEqual(self.keep(self.folder / "current"), [])
-        (self.folder / "current").unlink()
-        (self.folder / "current").symlink_to(second)
+        current = self.folder / "current"
+        current.symlink_to(first)
+        self.assertEqual(self.keep(current, first), [])
         (first / "a.dwg").unlink()
-        gone = "1 of its files are gone, and it has them no more; the first is first/a.dwg"
-        self.assertEqual(self.keep("--forget", first), [gone])
-        (self.folder / "current").unlink()
-        (self.folder / "current").symlink_to(first)
-        self.assertEqual(self.compare()[1].get("current/a.dwg"), "missing")
+        self.assertEqual(self.keep("--forget", first), ["1 of its files are gone, and it has them no more; the first is first/a.dwg"])
+        self.assertEqual(self.compare(), (68, {"first/b.dwg": "same", "current/b.dwg": "same", "current/a.dwg": "missing"}))
         # By its name it is forgotten, wherever the link leads.
+        before = self.log.read_bytes()
         for target in (second, first):
-            (self.folder / "current").unlink()
-            (self.folder / "current").symlink_to(target)
-            self.assertEqual(self.keep("--forget", "--null", "-", given=os.fsencode(self.folder / "current/a.dwg") + b"\0")[:1], ["1 of its files are gone, and it has them no more; the first is current/a.dwg"][: target == second])
+            current.unlink()
+            current.symlink_to(target)
+            self.log.write_bytes(before)
+            self.assertEqual(self.keep("--forget", "--null", "-", given=os.fsencode(current / "a.dwg") + b"\0"), ["1 of its files are gone, and it has them no more; the first is current/a.dwg"], target)
 
     def test_nothing_is_forgotten_that_cannot_be_told(self) -> None:
         volume = self.volume("d", "a.dwg", "b.dwg", "c.dwg")
@@ -366,9 +377,9 @@ class Names(common.InFolder):
         gone = "1 of its files are gone, which it keeps (--forget has it forget them); the first is d/new/a.dwg"
         self.assertEqual(self.keep("--follow", "--add", volume), [other("doesn't take"), gone])
         self.assertEqual(self.compare(volume)[1]["d/new/a.dwg"], "missing")
-        moved = "1 of its files have other names now; the first is d/new/a.dwg"
-        self.assertEqual(self.keep("--follow", volume), [other("takes"), moved])
-        self.assertEqual(self.compare(volume)[0], 0)
+        # Nor does what takes the place of another content.
+        self.assertEqual(self.keep("--follow", volume), [other("takes"), gone])
+        self.assertEqual(self.compare(volume)[1]["d/new/a.dwg"], "missing")
 
     def test_a_file_that_could_not_be_read_and_is_gone(self) -> None:
         volume = self.volume("d", "a.dwg")

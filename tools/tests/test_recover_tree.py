@@ -398,10 +398,13 @@ class Outcomes(Tree):
         self.assertEqual((self.out / "plans" / "a.dwg").stat().st_mtime_ns, 10**18 + 456)
 
     def test_long_names(self) -> None:
-        (self.plans / ("x" * 251 + ".dwg")).write_bytes(older(drawn(5, 1)))
-        (row,) = self.grown(5, self.plans)
-        self.assertEqual((row["outcome"], tree_of(self.out)), ("failed", {}))
-        self.assertIn("File name too long", row["detail"])
+        """Of one that notes can't have nothing is recovered, and LOG has no line of it."""
+        name = "x" * 251 + ".dwg"
+        (self.plans / name).write_bytes(older(drawn(5, 1)))
+        for _ in range(2):
+            (row,) = self.grown(5, "--program", self.noting(), self.plans)
+            self.assertEqual((row["outcome"], tree_of(self.out), self.logged(), "recover" in self.runs()), ("failed", {}, [], False))
+            self.assertTrue(row["detail"].endswith(f"; {self.out}/plans/{name}.notes can't be written: File name too long"), row)
 
     def test_unreadable(self) -> None:
         data = older(drawn(5, 1))
@@ -869,16 +872,14 @@ class Resumed(Tree):
                 shutil.rmtree(self.out)
 
     def test_a_changed_input(self) -> None:
-        """What has another content is done again, though size and time of change are the same; what was there of it may be replaced."""
+        """What has another content is done again; what was there of it may be replaced."""
         first, second = self.plans / "flips" / "20.dwg", self.plans / "flips" / "5.dwg"
         self.grown(1, self.plans)
-        told = first.stat()
         data = drawn(20, 20)
         frame = layout(data).frames[3]
         changed = flipped(data, frame.place + 3)
         self.assertEqual(len(changed), len(first.read_bytes()))
         first.write_bytes(changed)
-        os.utime(first, ns=(told.st_mtime_ns, told.st_mtime_ns))
         second.write_bytes(drawn(5, 5))
         rows_by_path = {row["path"]: row for row in self.grown(1, "--program", self.noting(), self.plans)}
         answer = dwg("recover", given=changed)
@@ -991,23 +992,24 @@ class Resumed(Tree):
         order: List[str] = []
         grower = growing.Growing.__new__(growing.Growing)
         grower.one, grower.out, grower.notes = Planned("a.dwg", None, "a.dwg"), "a.dwg", "a.dwg.notes"
-        adds = {"add": lambda line, _: order.append(f"log {line.made.output}"), "sync": lambda: order.append("sync")}
-        grower.tree = SimpleNamespace(**adds, stands=lambda line: order.append("stands"), fault="")
+        faults = [""]
+        adds = {"add": lambda line, _: order.append(f"log {line.made.output}") is None, "sync": lambda: order.append("sync") or faults[0]}
+        grower.tree = SimpleNamespace(**adds, stands=lambda line: order.append("stands"), take_back=lambda *words: order.append(f"back {words[-1]}"))
         grower.grower = SimpleNamespace(alone=lambda file: contextlib.nullcontext(), written=set())
-        grower.may_replace = lambda file, line, made, files: None
+        grower.may_replace = lambda *words: None
         grower.refuse_moved = lambda whole, more="": None
-        whole = SimpleNamespace(finish=lambda: None, name="a.dwg", there=lambda name: None, force=False)
+        whole = SimpleNamespace(finish=lambda: None, name="a.dwg", there=lambda name: None, is_own=lambda there: False, force=False)
         grower.place(None, Line("a.dwg"), Made("a.dwg", "0" * 64), [(whole, "")], lambda: order.append("place"))
         self.assertEqual(order, ["log a.dwg", "place", "stands"])
         # What is replaced is gone after a power cut too, and so LOG is on the disk before.
         whole.force = True
         grower.place(None, Line("a.dwg"), Made("a.dwg", "0" * 64), [(whole, "")], lambda: order.append("place"))
         self.assertEqual(order[3:], ["log a.dwg", "sync", "place", "stands"])
-        # Where LOG can't be written nothing is replaced.
-        grower.tree.fault = "No space left on device"
+        # Where LOG can't be written nothing is replaced, and LOG has that, where it can.
+        faults[0] = "No space left on device"
         with self.assertRaisesRegex(ToolError, "a.dwg is left as it is, since the log can't be written: No space left on device"):
             grower.place(None, Line("a.dwg"), Made("a.dwg", "0" * 64), [(whole, "")], lambda: order.append("place"))
-        self.assertEqual(order[7:], ["log a.dwg", "sync"])
+        self.assertEqual(order[7:], ["log a.dwg", "sync", "back True"])
 
     def begun(self, *words: object) -> "subprocess.Popen[bytes]":
         """A run that has begun."""
@@ -1400,8 +1402,9 @@ from dwgtools import growing
 {lines}
 add = growing.TreeLog.add
 def saving(log, *words):
-    add(log, *words)
+    is_added = add(log, *words)
     os.replace({mine!r}, {place!r})
+    return is_added
 growing.TreeLog.add = saving
 """
 
@@ -1410,6 +1413,17 @@ KILLED_AFTER_PLACING = """
 import os, signal
 from dwgtools import growing
 growing.TreeLog.stands = lambda *words: os.kill(os.getpid(), signal.SIGKILL)
+"""
+
+# No file of a name is on the disk when that is asked for.
+NO_SYNC = """
+import os
+fsync = os.fsync
+def failing(handle):
+    if os.readlink(f"/proc/self/fd/{{handle}}").endswith({name!r}):
+        raise OSError(5, "Input/output error")
+    fsync(handle)
+os.fsync = failing
 """
 
 NO_RENAMES = "outputs.renamed = outputs.renamed_to_new = lambda *words: False"
@@ -1727,6 +1741,138 @@ class Replaced(Tree):
             log.write_bytes(without)
             for name, data in after.items():
                 (self.out / os.fsdecode(name)).write_bytes(data)
+
+    def put_by_hand(self, source: Path, other: bytes) -> None:
+        """Somebody puts a copy there by hand, and the file becomes another drawing: the copy stays, as no run wrote it."""
+        out = self.out / source.name
+        shutil.copy(source, out)
+        copy = source.read_bytes()
+        source.write_bytes(other)
+        (row,) = self.grown(73, "--whole", "copy", source)
+        self.assertEqual((row["outcome"], out.read_bytes()), ("refused", copy))
+        self.assertIn(f"{out} is there already, and isn't what a run left there; --force replaces it", row["detail"])
+
+    def test_a_copy_that_was_refused_is_no_run_s_own(self) -> None:
+        """As where somebody edited the notes of what stood there."""
+        source, out, notes = self.plans / "x.dwg", self.out / "x.dwg", self.out / "x.dwg.notes"
+        source.write_bytes(older(drawn(20, 1)))
+        self.grown(1, source)
+        notes.write_bytes(notes.read_bytes() + b"my remark")
+        source.write_bytes(drawn(20, 1))
+        lines = self.logged()
+        for _ in range(2):
+            (row,) = self.grown(73, "--whole", "copy", source)
+            self.assertEqual((row["outcome"], self.logged()), ("refused", lines))
+            self.assertIn(f"{notes} is there already, and isn't what a run left there; --force removes it", row["detail"])
+        notes.rename(self.folder / "my notes")
+        self.put_by_hand(source, drawn(21, 1))
+
+    def test_what_could_not_be_placed_is_no_run_s_own(self) -> None:
+        """And what stood there is it still, as before."""
+        source, out, mine = self.plans / "x.dwg", self.out / "x.dwg", self.folder / "mine"
+        moments = {
+            NO_RENAME.format(names=(".dwg",)): "failed",
+            SAVING.format(lines="", mine=str(mine), place=str(out)): "refused",
+            SAVING.format(lines=NO_RENAMES, mine=str(mine), place=str(out)): "refused",
+            NO_SYNC.format(name=LOG): "failed",
+        }
+        for (lines, outcome), is_again in itertools.product(moments.items(), (False, True)):
+            with self.subTest(lines=lines, is_again=is_again):
+                shutil.rmtree(self.out, ignore_errors=True)
+                source.write_bytes(drawn(20, 1))
+                self.grown(0, "--whole", "copy", source)
+                source.write_bytes(drawn(21, 1))
+                mine.write_bytes(drawn(20, 1) if is_again else b"his own")
+                ran = test_limits.otherwise("dwg-recover", lines, "--program", made.PROGRAM, "--whole", "copy", "--tree", self.out, source)
+                self.assertEqual(rows(ran.stdout)[0]["outcome"], outcome, ran.stderr)
+                if is_again:
+                    # (what is of the bytes that a run wrote last is its own)
+                    self.grown(0, "--whole", "copy", source)
+                    self.assertEqual(out.read_bytes(), drawn(21, 1))
+                else:
+                    self.put_by_hand(source, drawn(22, 1))
+
+    def test_what_stood_there_before_a_kill_and_a_failure_is_a_run_s_own(self) -> None:
+        """The kill came before anything was placed, and the failure put back what stood there."""
+        source, out = self.plans / "x.dwg", self.out / "x.dwg"
+        killed = Resumed.KILLED.format(turn=1, before=True)
+        for count in (21, 22):
+            with self.subTest(count=count):
+                shutil.rmtree(self.out, ignore_errors=True)
+                source.write_bytes(older(drawn(20, 1)))
+                self.grown(1, source)
+                before = tree_of(self.out)
+                source.write_bytes(older(drawn(21, 1)))
+                ran = test_limits.otherwise("dwg-recover", killed, "--program", made.PROGRAM, "--tree", self.out, source)
+                self.assertEqual(ran.returncode, -9, ran.stderr)
+                for path in self.out.glob(".*.part"):
+                    # (the old notes are aside)
+                    path.rename(self.out / "x.dwg.notes") if path.read_bytes() == before[b"x.dwg.notes"] else path.unlink()
+                self.assertEqual(tree_of(self.out), before)
+                source.write_bytes(older(drawn(count, 1)))
+                ran = test_limits.otherwise("dwg-recover", NO_RENAME.format(names=(".dwg",)), "--program", made.PROGRAM, "--tree", self.out, source)
+                self.assertEqual((ran.returncode, rows(ran.stdout)[0]["outcome"], tree_of(self.out)), (5, "failed", before), ran.stderr)
+                self.grown(1, source)
+                self.assertEqual(out.read_bytes(), dwg("recover", given=source.read_bytes()).stdout)
+
+    def test_what_a_file_became_by_itself_replaces_nothing(self) -> None:
+        """Its content changed, and neither its size nor its time: what stands there is perhaps the last that is good, whole or recovered."""
+        source, out = self.plans / "x.dwg", self.out / "x.dwg"
+        whole, words = drawn(20, 1), ("--whole", "copy", source)
+        contents = whole, next(data for data in (drawn(20, seed) for seed in range(2, 500)) if len(data) == len(whole))
+        frames = layout(whole).frames
+        damaged = flipped(whole, frames[10].place + 5), flipped(whole, frames[3].place + 5)
+        for first, second in ((whole, contents[1]), (whole, damaged[0]), damaged):
+            for is_touched in (False, True):
+                with self.subTest(kinds=[contents.index(one) if one in contents else "damaged" for one in (first, second)], is_touched=is_touched):
+                    shutil.rmtree(self.out, ignore_errors=True)
+                    source.write_bytes(first)
+                    os.utime(source, ns=(10**18, 10**18))
+                    status = int(first != whole)
+                    self.grown(status, *words)
+                    if is_touched:
+                        # (of the time that a file has now LOG knows by a line more)
+                        os.utime(source, ns=(10**18, 10**18 + 10**9))
+                        self.grown(status, *words)
+                        self.grown(status, *words)
+                        self.assertEqual(len(self.logged()), 2)
+                    before, lines, times = tree_of(self.out), self.logged(), source.stat()
+                    source.write_bytes(second)
+                    os.utime(source, ns=(10**18, times.st_mtime_ns))
+                    for _ in range(2):
+                        (row,) = self.grown(73, *words)
+                        self.assertEqual((row["outcome"], row["status"], row["output"]), ("refused", "73", ""))
+                        self.assertTrue(row["detail"].endswith(f"{out} is of another content, and that of the file changed though its size and time didn't; --force replaces it"), row)
+                        self.assertEqual((tree_of(self.out), self.logged()), (before, lines))
+                    for force in (["--force"], [], []):
+                        self.grown(int(second not in contents), *force, *words)
+                        self.assertEqual(out.read_bytes(), second if second in contents else dwg("recover", given=second).stdout)
+                        lines = lines if force else self.logged()
+                    self.assertEqual(self.logged(), lines)
+                    # What was put right is copied, and so is what was changed in the usual way.
+                    source.write_bytes(whole)
+                    os.utime(source, ns=(10**18, times.st_mtime_ns))
+                    self.grown(0, *words)
+                    self.assertEqual(tree_of(self.out), {b"x.dwg": whole})
+                    source.write_bytes(contents[1])
+                    self.grown(0, *words)
+                    self.assertEqual(out.read_bytes(), contents[1])
+
+    def test_log_has_a_line_once_of_what_a_file_became_by_itself(self) -> None:
+        source, place = self.plans / "x.dwg", self.out / "plans" / "x.dwg"
+        whole = drawn(20, 1)
+        other = next(data for data in (drawn(20, seed) for seed in range(2, 500)) if len(data) == len(whole))
+        for copies in ([], ["--whole", "copy"]):
+            shutil.rmtree(self.out, ignore_errors=True)
+            for data in (whole, other):
+                source.write_bytes(data)
+                os.utime(source, ns=(10**18, 10**18))
+                for _ in range(3):
+                    self.grown(0, *copies, self.plans)
+                if copies and data == whole:
+                    # (somebody wants the other one)
+                    place.write_bytes(other)
+            self.assertEqual([line["verdict"] for line in self.logged()], ["sound", "changed"], copies)
 
     def test_a_tree_is_no_stream(self) -> None:
         self.assertEqual(self.refused(64, self.plans, out="-"), "dwg-recover: a tree is a folder, and no stream; ./- is a folder of that name\n")

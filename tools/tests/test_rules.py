@@ -37,7 +37,7 @@ def files() -> Dict[str, bytes]:
         "whole": data, "trailing": data + b"\0\0x", "trailing zeros": data + bytes(99), "two": data + data, "inner": b"\x80\0" * 9 + data,
         "version of another": b"AC1014" + data[6:], "version unknown": b"AC1099" + data[6:], "no version": b"\x80XX\0\1\2" + data[6:],
         "no header": made.hole(data, 0, 96), "no begin": data[200:], "no map": data[:map_place], "map flipped": made.flipped(data, map_place + 4),
-        "header flipped": made.flipped(data, 30), "zeros": bytes(999), "bytes": b"\x80XX\0" + bytes(range(256)),
+        "header flipped": made.flipped(data, 30), "zeros": bytes(999), "picture and a drawing": b"\xff\xd8\xff\xe0" * 128 + data[512:], "bytes": b"\x80XX\0" + bytes(range(256)),
     })  # fmt: skip
     return found
 

@@ -370,5 +370,74 @@ class Hyphens(test_limits.Checked):
             self.assertEqual((self.folder / "-").read_bytes(), b"AC1015\0\1\2", script)
 
 
+class Linked(common.InFolder):
+    """A link in a folder that leads to what is written ends no run: whoever may write into the folder may make one."""
+
+    UNREADABLE = "d/x.dwg\tunreadable\tit is standard output or error, or another output\t"
+
+    def setUp(self) -> None:
+        super().setUp()
+        (self.folder / "d").mkdir()
+        self.file("d/a.dwg", drawn(3))
+        self.link = self.folder / "d" / "x.dwg"
+
+    def lead(self, target: object) -> None:
+        """Has the link lead somewhere."""
+        self.link.unlink(missing_ok=True)
+        self.link.symlink_to(Path(str(target)))
+
+    def answer(self, script: str) -> Tuple[int, str, str]:
+        """The status of a script in which the tools are on the path, and what it says on both streams."""
+        ran = in_bash(script, self.folder, Path(made.PROGRAM))
+        return ran.returncode, ran.stdout.decode(), ran.stderr.decode()
+
+    def test_standard_streams_that_are_pipes(self) -> None:
+        for target in ("/dev/stdout", "/dev/stderr", "/dev/fd/1", "/proc/self/fd/2"):
+            self.lead(target)
+            for options in ("", "--resume log1", "--fixity log2", "--fixity log2 --verify"):
+                status, table, said = self.answer(f"dwg-check --quiet --follow {options} d | cat; exit ${{PIPESTATUS[0]}}")
+                self.assertEqual((status, said), (68 if "--verify" in options else 1, ""), (target, options))
+                self.assertIn("d/a.dwg\tsame\t" if "--verify" in options else "d/a.dwg\tsound\t", table, (target, options))
+                self.assertIn(self.UNREADABLE, table, (target, options))
+            status, layers, said = self.answer("dwg-info --follow --layers d | cat; exit ${PIPESTATUS[0]}")
+            self.assertEqual((status, layers.count("d/a.dwg") > 0, said), (0, True, "dwg-info: 1 of 2 files in folders is left out; dwg-check says why\n"), target)
+            status, table, said = self.answer("printf 'd/a.dwg\\nd/x.dwg\\n' | dwg-check --quiet --resume log3 - | cat; exit ${PIPESTATUS[1]}")
+            self.assertEqual((status, self.UNREADABLE in table, said), (1, True, ""), target)
+        # By a word it is refused.
+        self.assertEqual(self.answer("dwg-check --quiet d /dev/stdout | cat; exit ${PIPESTATUS[0]}")[:2], (73, ""))
+
+    def test_what_a_table_is_added_to(self) -> None:
+        self.file("table", b"head\n")
+        for target in ("../table", "/dev/stdout"):
+            self.lead(target)
+            self.assertEqual(self.answer("dwg-check --quiet --follow d >>table"), (1, "", ""))
+            head, *lines = (self.folder / "table").read_text("ascii").splitlines()[-3:]
+            self.assertEqual((head.split("\t")[0], [line.split("\t")[:2] for line in lines]), ("path", [["d/a.dwg", "sound"], ["d/x.dwg", "unreadable"]]), target)
+        # A name that LOG has, at which such a link stands now.
+        self.link.unlink()
+        self.file("d/x.dwg", drawn(4))
+        self.assertEqual(self.answer("dwg-check --quiet --fixity log d >/dev/null")[0], 0)
+        self.lead("../table")
+        self.assertEqual(self.answer("dwg-check --quiet --fixity log --verify >>table"), (68, "", ""))
+        self.assertIn(f"{self.UNREADABLE}", (self.folder / "table").read_text("ascii").replace(f"{self.folder}/", ""))
+
+    def test_a_drawing_is_not_written_into_by_a_link(self) -> None:
+        """Whether it is called so or begins so."""
+        for name, data in (("other.dwg", b"damaged"), ("other", drawn(5)), ("other", b"AC1009" + bytes(90))):
+            path = Path(self.file(name, data))
+            self.lead(f"../{name}")
+            for script in (f"dwg-check --quiet --follow d >>{name}", f"dwg-check --quiet --follow d 2>>{name}", f"dwg-info --follow --layers d >>{name}"):
+                self.assertEqual((self.answer(script)[0], path.read_bytes()), (73, data), script)
+
+    def test_an_output_that_is_replaced(self) -> None:
+        self.file("layers.csv", b"older\n")
+        self.lead("../layers.csv")
+        self.assertEqual(self.answer("dwg-info --follow --layers --output layers.csv --force d")[0], 0)
+        self.assertIn("d/a.dwg", (self.folder / "layers.csv").read_text("ascii"))
+        self.file("other.dwg", b"damaged")
+        self.lead("../other.dwg")
+        self.assertEqual((self.answer("dwg-info --follow --layers --output other.dwg --force d")[0], (self.folder / "other.dwg").read_bytes()), (73, b"damaged"))
+
+
 if __name__ == "__main__":
     unittest.main()

@@ -54,7 +54,7 @@ class Worlds(unittest.TestCase):
         self.expect_seen(TOOL, "follow_files", follow_files, "no more, of which 0 are told")
 
     def test_another_content_that_is_called_the_same_is_seen(self) -> None:
-        self.expect_seen(comparing, "content_of", lambda row: None, "is the same, and LOG has another")
+        self.expect_seen(comparing, "content_of", lambda row: None, "is called same, and LOG has")
 
 
 if __name__ == "__main__":
