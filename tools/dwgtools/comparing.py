@@ -13,8 +13,8 @@ from typing import IO, Any, Callable, Deque, Dict, Iterable, Iterator, List, Opt
 from .certificates import Certificates, refusal_of
 from .escapes import one_line
 from .inputs import bytes_of, is_hollow
-from .log import Contents, content_of, is_away, is_gone, open_log, read_row, refuse_file
-from .log_lines import take_lines
+from .log import Contents, Names, content_of, is_away, is_gone, open_log, read_row, refuse_file
+from .log_lines import Maker, take_lines
 from .program import Program, ProgramFailed
 from .rows import Row, as_object
 from .statuses import Exit, ToolError
@@ -58,6 +58,7 @@ class Kept(Contents):
     def __init__(self, path: str, tell_fault: Callable[[str], None]) -> None:
         super().__init__()
         self.name, self.is_link = one_line(path), os.path.islink(path)
+        self._names_of = Names()
         try:
             self._file = open_log(path, is_only_read=True)
             self.place = os.fstat(self._file.fileno())
@@ -71,8 +72,10 @@ class Kept(Contents):
         if not self:
             raise ToolError(f"{self.name} has no file", Exit.NOTHING_FOUND)
 
-    def _take(self, told: Dict[str, Any], _maker: object) -> None:
-        self.take(*read_row(told))
+    def _take(self, told: Dict[str, Any], maker: Optional[Maker]) -> None:
+        row = read_row(told)
+        for name in self._names_of.of(told, maker):
+            self.take(name, row)
 
     def named(self, absolute: str) -> Row:
         """What LOG has of a file, by the name that the words had, where that leads there from here, and else by its whole name."""

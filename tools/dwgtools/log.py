@@ -174,6 +174,39 @@ class Contents(Dict[str, Row]):
         self.without.pop(absolute, None)
 
 
+# From these rules on lines have names as they are spelled.
+FIRST_SPELLED = 3
+
+
+class Names:
+    """The names of the file of each line. Older tools had a file by the name to which links led: it stands for each name that led there too."""
+
+    def __init__(self) -> None:
+        self._led: Dict[str, str] = {}
+        self._leading: Dict[str, Set[str]] = {}
+
+    def of(self, told: Dict[str, Any], maker: Optional[Maker]) -> List[str]:
+        """The names of a line, which is one."""
+        name, link = told["absolute"], told.get("link")
+        if maker is None or maker.rules is not None and maker.rules >= FIRST_SPELLED or told.get("forgotten") is True:
+            self._drop(name)
+            return [name]
+        # (of what can't be read, or changed by itself, nobody knows where a link leads)
+        if told["verdict"] not in ("unreadable", "changed"):
+            self._drop(name)
+            if isinstance(link, str) and is_name(link):
+                self._drop(link)
+                self._led[link] = name
+                self._leading.setdefault(name, set()).add(link)
+        return [name, *sorted(self._leading.get(name, ()))]
+
+    def _drop(self, name: str) -> None:
+        """Has a name lead nowhere else any more."""
+        led = self._led.pop(name, None)
+        if led is not None:
+            self._leading[led].discard(name)
+
+
 def content_of(row: Row) -> Tuple[Optional[str], Optional[int]]:
     """What a file has: the SHA-256 and how many bytes."""
     return row.sha256, row.bytes
@@ -230,8 +263,8 @@ def is_name(text: str) -> bool:
         return False
 
 
-def read_row(told: Dict[str, Any]) -> Tuple[str, Row]:
-    """The file of a line of LOG by its whole name, and what was found of it."""
+def read_row(told: Dict[str, Any]) -> Row:
+    """What a line of LOG says was found of its file."""
     digest = told.get("sha256")
     if not all(isinstance(told.get(name), str) for name in TEXTS) or told["verdict"] not in VERDICTS or not VERSION_TOLD.fullmatch(told["version"]):
         raise NoLine
@@ -248,7 +281,7 @@ def read_row(told: Dict[str, Any]) -> Tuple[str, Row]:
     row.preview = read_preview(told.get("preview"))
     row.lasting = row.verdict == "failed"
     is_forgotten = told.get("forgotten") is True and row.verdict == "unreadable" and row.detail == GONE
-    return told["absolute"], Forgotten(**vars(row)) if is_forgotten else row
+    return Forgotten(**vars(row)) if is_forgotten else row
 
 
 def state_of_log(file: IO[bytes]) -> Tuple[int, int, int]:
@@ -326,7 +359,7 @@ class Log:
         # Why each file couldn't be read of which the last line says so.
         self._unreadable: Dict[str, str] = {}
         # What LOG had when the run began, and what was found under names that it didn't have.
-        self._before = Contents()
+        self._before, self._names_of = Contents(), Names()
         self._new: Dict[str, Row] = {}
         # Files of LOG that have another content than it had, and not by themselves.
         self.others: Set[str] = set()
@@ -354,7 +387,7 @@ class Log:
         has a sum. Where there is no room for that it is told, and nothing is added."""
         own, seen = Maker(program, RULES), Seen(self._file)
         self._file.seek(0)
-        read = take_lines(seen.readline, lambda told, maker: self.take_line(told, maker == own), self.name, self._tell)
+        read = take_lines(seen.readline, lambda told, maker: self.take_line(told, maker, maker == own), self.name, self._tell)
         self._seen = seen
         try:
             if not read.is_ended:
@@ -367,9 +400,11 @@ class Log:
             self.fault = str(fault.strerror)
             self._tell_fault()
 
-    def take_line(self, told: Dict[str, Any], is_current: bool) -> None:
+    def take_line(self, told: Dict[str, Any], maker: Optional[Maker], is_current: bool) -> None:
         """Takes a line that is no head, made by this program and these rules or by others; NoLine where it isn't as it should be."""
-        self._take(*read_row(told), is_current)
+        row = read_row(told)
+        for name in self._names_of.of(told, maker):
+            self._take(name, row, is_current)
 
     def _take(self, absolute: str, row: Row, is_current: bool) -> None:
         """Knows a file again; what it is found to be counts only where this program found it, by these rules."""

@@ -9,7 +9,7 @@ from typing import Any, Callable, Collection, Dict, FrozenSet, Optional, Set, Tu
 
 from .escapes import one_line
 from .log import DIGEST, LEAST, MOST, Key, Log, is_name
-from .log_lines import NoLine, is_number
+from .log_lines import Maker, NoLine, is_number
 from .notes import LOSSES
 from .rows import Row
 from .statuses import Exit, ToolError
@@ -157,9 +157,9 @@ class TreeLog(Log):
     def name_of(self, path: str) -> str:
         return self._places.name_of(path)
 
-    def take_line(self, told: Dict[str, Any], is_current: bool) -> None:
+    def take_line(self, told: Dict[str, Any], maker: Optional[Maker], is_current: bool) -> None:
         made = read_made(told.get("made"))
-        super().take_line(told, is_current)
+        super().take_line(told, maker, is_current)
         self._names.add(told["absolute"])
         if made is None:
             return

@@ -4,6 +4,7 @@ from __future__ import annotations
 
 import argparse
 import collections
+import errno
 import os
 import re
 import stat
@@ -236,15 +237,15 @@ WRITTEN = "it is standard output or error, or another output"
 
 
 def has_drawing(path: str, walk: Walk) -> bool:
-    """Whether a regular file is a drawing, by its own name or by how it begins."""
+    """Whether a regular file is a drawing, by its own name or by how it begins. What nobody may read is none by that."""
     try:
         if os.path.realpath(path).lower().endswith(walk.endings):
             return True
         # (a pipe that takes its place meanwhile isn't waited for)
         with open(path, "rb", opener=lambda name, flags: os.open(name, flags | os.O_NONBLOCK)) as file:
             return is_any_version(file.read(MOST_HEADER))
-    except OSError:
-        return True
+    except OSError as fault:
+        return fault.errno in (errno.EMFILE, errno.ENFILE, errno.ENOMEM)
 
 
 def without_outputs(found: Iterable[Named], walk: Walk, more: Optional[os.stat_result] = None) -> Iterator[Named]:

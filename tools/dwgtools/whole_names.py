@@ -3,6 +3,7 @@
 from __future__ import annotations
 
 import os
+import re
 from typing import Dict, Optional, Tuple
 
 # No system finds a file by a name of more bytes.
@@ -72,10 +73,16 @@ def absolute_name(path: str) -> str:
         return path
 
 
+# How what a process has open is called.
+_OPENED = re.compile(r"/dev/(?:std(?:in|out|err)|fd/[0-9]+)|/proc/[^/]+/(?:task/[^/]+/)?fd/[0-9]+")
+
+
 def spelled_name(path: str) -> str:
-    """The whole name of a file as it is spelled: links in it aren't gone through, but for those before the last `..`, which leads up from there."""
+    """The whole name of a file as it is spelled: links in it aren't gone through, but for those before the last `..`, which leads up from there. What
+    a process has open is another file each time, and is called as that is."""
     parts = [part for part in path.split(os.sep) if part not in ("", os.curdir)]
     ups = [index for index, part in enumerate(parts) if part == os.pardir]
     begin = os.sep if path.startswith(os.sep) else os.curdir
     cut = ups[-1] + 1 if ups else 0
-    return os.path.join(absolute_name(os.path.join(begin, *parts[:cut])), *parts[cut:])
+    name = os.path.join(absolute_name(os.path.join(begin, *parts[:cut])), *parts[cut:])
+    return absolute_name(path) if _OPENED.fullmatch(name) else name

@@ -1520,7 +1520,7 @@ class Previews(Base):
     def test_lines_of_log_that_tell_it_otherwise_are_damaged(self) -> None:
         right = {"bytes": 30, "pictures": [{"code": 2, "bytes": 20}]}
         line = {"path": "/a", "absolute": "/a", "verdict": "sound", "detail": "", "version": "AC1015", "bytes": 9, "mtime_ns": 9, "findings": 0, "trailing": 0, "preview": right}
-        self.assertEqual(json.loads(json.dumps(as_object(read_row(line)[1])))["preview"], right)
+        self.assertEqual(json.loads(json.dumps(as_object(read_row(line))))["preview"], right)
         for wrong in ({}, {"bytes": 30}, {"pictures": []}, {**right, "bytes": True}, {**right, "pictures": None}, {**right, "pictures": [1]}, {**right, "pictures": [{"code": 2}]}, {**right, "pictures": [{"code": 2, "bytes": "1"}]}):
             with self.assertRaises(NoLine, msg=wrong):
                 read_row({**line, "preview": wrong})

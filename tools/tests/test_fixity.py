@@ -749,18 +749,38 @@ class Fixity(common.InFolder):
         self.assertEqual((run().returncode, told(run())[str(link)]), (0, "same"))
 
     def test_a_log_of_an_older_tool_that_has_links(self) -> None:
-        """Its names are those to which links led. They stay names, and are compared; what the words name by a link is new."""
+        """It has files by the names to which links led. They stay names, beside those by which they were reached, of which the last lines tell."""
         self.keep()
         head, *lines = self.lines()
         link = self.folder / "link"
         link.symlink_to("d")
-        self.log.write_bytes(made.log_of([head, *({**line, "path": str(link / os.path.relpath(line["path"], self.archive)), "link": str(link / os.path.relpath(line["path"], self.archive))} for line in lines)]))
-        names = {name: "same" for name in self.data}
-        self.assertEqual(self.compared("--", self.archive / "a.dwg"), names)
+        by_link = {name: str(link / name) for name in self.data}
+        lines = [{**line, "path": by_link[name], "link": by_link[name]} for line in lines for name in [os.path.relpath(line["path"], self.archive)]]
+        # One was read by its own name since, and another is a file by the name of the link.
+        (a, b), more = ([line for line in lines if line["path"].endswith(name)][0] for name in ("a.dwg", "b.dwg")), made.made(40)
+        direct = {**a, "path": a["absolute"], "sha256": sha(more), "bytes": len(more)}
+        del direct["link"]
+        own = {**b, "absolute": b["link"], "sha256": sha(more), "bytes": len(more)}
+        del own["link"]
+        older = made.log_of([{**head, "rules": 2}, *lines])
+        self.log.write_bytes(older)
         told = self.compared(link)
-        self.assertEqual({name: said.split()[0] for name, said in told.items()}, {**names, **{str(link / name): "new" for name in names}})
+        self.assertEqual(told, {**dict.fromkeys(self.data, "same"), **dict.fromkeys(by_link.values(), "same")})
+        self.assertEqual(self.compared("--", self.archive / "a.dwg"), told)
+        self.log.write_bytes(older + made.log_of([direct, own]))
+        other = f"changed it had {len(more)} bytes"
+        self.assertEqual(self.compared(link), {**told, "a.dwg": other, by_link["a.dwg"]: other, by_link["b.dwg"]: other})
+        # What changed by itself is told by the name of the link, as before.
+        self.log.write_bytes(older)
         self.change("b.dwg")
-        self.assertEqual(self.compared(link)["b.dwg"], "changed of the same size and time")
+        same_size = "changed of the same size and time"
+        self.assertEqual({name: said for name, said in self.compared(link).items() if said != "same"}, {"b.dwg": same_size, by_link["b.dwg"]: same_size})
+        ran = tool("dwg-check", "--quiet", "--resume", self.log, "--verify", link)
+        self.assertEqual(ran.stdout.count(b"\tchanged\t"), 1)
+        # Lines of this tool are of the one name that they have.
+        self.file("d/b.dwg", more)
+        self.assertIn(f"the first is {self.archive}/b.dwg\n", self.keep().stderr.decode())
+        self.assertEqual({name: said for name, said in self.compared(link).items() if said != "same"}, {by_link["b.dwg"]: f"changed it had {len(self.data['b.dwg'])} bytes"})
 
     def test_a_replaced_file_beyond_a_new_link_is_changed_for_resume_too(self) -> None:
         """One that is sound, of the same size and time."""

@@ -84,6 +84,20 @@ class Names(common.InFolder):
                     moved.unlink()
                     moved.symlink_to(chance.choice(folders))
 
+    def test_what_a_process_has_open_is_another_file_each_time(self) -> None:
+        first, second = self.volume("d", "a.dwg") / "a.dwg", self.folder / "d" / "b.dwg"
+        second.write_bytes(made.flipped(DATA["a.dwg"], 700, 1))
+        for path in (first, second):
+            os.utime(path, ns=(10**18, 10**18))
+        for name in ("/dev/stdin", "/dev//fd/0", "/proc/self/fd/0", "/proc/thread-self/fd/0", "/dev/../dev/stdin"):
+            self.log.unlink(missing_ok=True)
+            for _ in range(2):
+                for path, expected in ((first, (0, b"")), (second, (1, b""))):
+                    with path.open("rb") as file:
+                        words = [str(TOOLS / "dwg-check"), "--quiet", "--resume", str(self.log), name]
+                        ran = subprocess.run(words, stdin=file, capture_output=True, check=False, env={**os.environ, "DWG": made.PROGRAM})
+                    self.assertEqual((ran.returncode, ran.stderr), expected, (name, path))
+
     def test_deep_folders_hold_nothing_up(self) -> None:
         """To find the whole name of a file a system looks at each folder on its way, and at the way to each."""
         before, inner = os.getcwd(), "d" + "/a" * ((3900 - len(str(self.folder))) // 2)

@@ -2,6 +2,7 @@
 
 from __future__ import annotations
 
+import errno
 import fcntl
 import os
 import shutil
@@ -12,6 +13,7 @@ import sys
 import termios
 import time
 import unittest
+import unittest.mock
 from pathlib import Path
 from typing import Any, Callable, Dict, List, Sequence, Tuple
 
@@ -20,6 +22,8 @@ import made
 import spelled
 import test_limits
 from made import TOOLS, flipped, layout, made as drawn, program_that, tool
+
+from dwgtools.walking import Walk, has_drawing
 
 # How Linux is told how many bytes a pipe holds.
 SETPIPE_SZ = 1031
@@ -428,6 +432,13 @@ class Linked(common.InFolder):
             self.lead(f"../{name}")
             for script in (f"dwg-check --quiet --follow d >>{name}", f"dwg-check --quiet --follow d 2>>{name}", f"dwg-info --follow --layers d >>{name}"):
                 self.assertEqual((self.answer(script)[0], path.read_bytes()), (73, data), script)
+
+    def test_what_nobody_may_read_is_no_drawing(self) -> None:
+        """As where a service writes its messages into a file that only root may read. (Root reads each.)"""
+        path = self.file("messages", drawn(3))
+        for number, is_one in ((errno.EACCES, False), (errno.EMFILE, True)):
+            with unittest.mock.patch("builtins.open", side_effect=OSError(number, "")):
+                self.assertEqual(has_drawing(str(path), Walk()), is_one)
 
     def test_an_output_that_is_replaced(self) -> None:
         self.file("layers.csv", b"older\n")
