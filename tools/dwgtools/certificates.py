@@ -6,6 +6,7 @@ import contextlib
 import errno
 import hashlib
 import os
+import re
 import threading
 from typing import Callable, Optional, Set
 
@@ -20,6 +21,10 @@ from .streams import ENDING, FOLDER
 from .verdicts import failed_with, open_regular
 from .versions import LIMIT
 from .walking import status_of
+
+
+# How certificates are called, and what is left of one where a run was killed.
+OWN = re.compile(r"[0-9a-f]{64}\.cert|\.[0-9a-f]{25}\.[0-9a-f]{16}\.part")
 
 
 def folder_of(log: str) -> str:
@@ -65,9 +70,10 @@ class Certificates:
         return is_there
 
     def has_file(self, path: str) -> bool:
-        """Whether a file stands in the folder."""
-        above = os.path.dirname(path)
-        found, own = (status_of(above), status_of(self.folder)) if above.endswith(FOLDER) else (None, None)
+        """Whether a file is one of the certificates, or what a killed run has left of one."""
+        above, name = os.path.split(path)
+        is_called = above.endswith(FOLDER) and OWN.fullmatch(name)
+        found, own = (status_of(above), status_of(self.folder)) if is_called else (None, None)
         return found is not None and own is not None and os.path.samestat(found, own)
 
     def read(self, digest: str) -> Optional[bytes]:

@@ -431,7 +431,7 @@ class Growing(Checker):
                 raise Refused(f"{whole.path} is of the same content, by another program; --force replaces it")
             # (a drawing that is whole again, as from a backup, is better than what was recovered)
             is_better = made.is_whole and not self.tree.is_whole(name, there)
-            if there != digest and not is_better and self.tree.is_changed(line) and not self.grower.options.force:
+            if there != digest and not is_better and self.is_changed(line, name, there, state) and not self.grower.options.force:
                 raise Refused(f"{whole.path} is of another content, and that of the file changed though its size and time didn't; --force replaces it")
             if there != digest and self.tree.is_whole(name, there) and not made.is_whole and not self.grower.options.force:
                 raise Refused(f"{whole.path} is whole, and what is recovered isn't; --force replaces it")
@@ -440,6 +440,11 @@ class Growing(Checker):
             whole.force, whole.judged = True, state
         if away is not None:
             away.force = self.has_own_notes(file, away)
+
+    def is_changed(self, line: Line, name: str, there: str, state: os.stat_result) -> bool:
+        """Whether the content of a file changed though its size and time didn't. A copy has these too, of which LOG may not be sure."""
+        is_of_time = self.tree.is_whole(name, there) and (state.st_size, state.st_mtime_ns) == (line.bytes, line.mtime_ns)
+        return self.tree.is_changed(line) or is_of_time and not self.tree.has_time(line)
 
     def place_pair(self, whole: WholeFile, notes: WholeFile) -> None:
         """Gives a drawing and its notes their names; a fault tells what is left behind."""

@@ -235,7 +235,7 @@ class TreeLog(Log):
     def add(self, line: Line, stood: Optional[Tuple[State, State]] = None) -> bool:
         """Keeps what is known of a content, and what is about to be placed of it and in the place of what, where LOG doesn't have that. Whether it
         didn't."""
-        if self._is_known(line) and (line.made is None or self._has(line.made, line.source) and self._has_time(line)):
+        if self._is_known(line) and (line.made is None or self._has(line.made, line.source) and (self.has_time(line) or not line.settled)):
             return False
         self._keep(line, None if line.made is None else replace(line.made, at_ns=time.time_ns(), stood=stood))
         return True
@@ -253,9 +253,9 @@ class TreeLog(Log):
         known = self._outputs.get(made.output)
         return known is not None and (known.last, known.source) == (made, source)
 
-    def _has_time(self, line: Line) -> bool:
-        """Whether LOG has the size and time of a file, by which it sees that the content changes by itself; or can't have it yet."""
-        return not line.settled or key_of(line) in self._known
+    def has_time(self, line: Line) -> bool:
+        """Whether LOG has the size and time of a file, by which it sees that the content changes by itself."""
+        return key_of(line) in self._known
 
     def take_back(self, line: Line, stood: Tuple[State, State], is_added: bool) -> None:
         """Keeps it that what was about to be placed wasn't, and that what stood there was touched; of what an earlier run was about to place, where LOG had

@@ -155,8 +155,9 @@ def planned(options: argparse.Namespace) -> List[Planned]:
     new = outputs(is_new=True)
     found = [one for one in found_below(options.files, walk_of(options)) if not any(is_one_file(own, status_of(one.path)) for own in new)]
     if new or outputs(is_new=False):
-        outs = [os.path.join(options.tree, one.name) for one in found]
-        refuse_streams([as_file(one.path) for one in found], [os.path.join(options.tree, LOG_NAME), *outs, *(out + NOTES for out in outs)])
+        outs = [os.path.join(options.tree, one.name + end) for one in found for end in ("", NOTES)]
+        # (nothing is written by a link that stands there: its file is refused, and no other)
+        refuse_streams([as_file(one.path) for one in found], [os.path.join(options.tree, LOG_NAME), *(out for out in outs if not os.path.islink(out))])
     return list(without_clashes(found))
 
 

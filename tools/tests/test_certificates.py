@@ -70,6 +70,15 @@ class Standing(common.InFolder):
         with other.open("ab") as file:
             self.assertEqual(self.run_with("--verify", stdout=file.fileno(), stderr=file.fileno()).returncode, 0)
 
+    def test_what_else_stands_among_certificates_is_checked(self) -> None:
+        self.assertEqual(self.run_with("--quiet", self.archive).returncode, 0)
+        self.file("log.certificates/plan.dwg", made.made(9))
+        (self.certificates / f".{'0' * 25}.{'1' * 16}.part").write_bytes(b"")
+        for options in ((), ("--verify",)):
+            ran = self.run_with("--quiet", "--all", *options, self.folder)
+            names = [line.split(b"\t")[0].rpartition(b"/")[2] for line in ran.stdout.splitlines()[1:]]
+            self.assertEqual((ran.returncode, names), (0, [b"0.dwg", b"1.dwg", b"2.dwg", b"plan.dwg"]), ran.stdout)
+
     def test_a_name_that_is_taken(self) -> None:
         path = self.certificate(1)
         self.certificates.mkdir()

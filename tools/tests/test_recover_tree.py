@@ -508,6 +508,22 @@ class Refusals(Tree):
         ran = subprocess.run([str(TOOLS / "dwg-recover"), "--", "--tree", "o.dwg"], cwd=self.plans, capture_output=True, check=False, env={**os.environ, "DWG": made.PROGRAM})
         self.assertEqual((ran.returncode, (self.plans / "o.dwg").exists()), (1, True), ran.stderr)
 
+    def test_a_link_at_an_output_to_a_standard_stream(self) -> None:
+        """Nothing is written by it: its file is refused, and no other."""
+        shutil.copy(self.plan, self.plans / "in" / "b.dwg")
+        self.place.parent.mkdir(parents=True)
+        words = [str(TOOLS / "dwg-recover"), "--quiet", "--tree", str(self.out), str(self.plans)]
+        for name, target in (("a.dwg", "/dev/stdout"), ("a.dwg", "/dev/stderr"), ("a.dwg.notes", "/dev/stdout"), ("a.dwg.notes", "/dev/stderr")):
+            link = self.place.parent / name
+            link.symlink_to(target)
+            with open(self.folder / "table", "wb") as table, open(self.folder / "messages", "wb") as messages:
+                ran = subprocess.run(words, stdin=subprocess.DEVNULL, stdout=table, stderr=messages, check=False, env={**os.environ, "DWG": made.PROGRAM})
+            lines = [line.split("\t")[:2] for line in (self.folder / "table").read_text().splitlines()[1:]]
+            self.assertEqual((ran.returncode, (self.folder / "messages").read_bytes()), (73, b""), (name, target))
+            self.assertEqual(lines, [[str(self.plan), "refused"], [str(self.plan.parent / "b.dwg"), "recovered"]], (name, target))
+            self.assertEqual(os.readlink(link), target)
+            link.unlink()
+
     def test_a_pipe_or_a_device_is_no_word(self) -> None:
         os.mkfifo(self.plans / "fifo.dwg")
         for word in (self.plans / "fifo.dwg", "/dev/null"):
@@ -1857,6 +1873,21 @@ class Replaced(Tree):
                     source.write_bytes(contents[1])
                     self.grown(0, *words)
                     self.assertEqual(out.read_bytes(), contents[1])
+
+    def test_a_copy_tells_the_time_of_which_log_is_not_sure(self) -> None:
+        """As of a file of which the clock is ahead: LOG has no time of it, and the copy has."""
+        source, out, ahead = self.plans / "x.dwg", self.out / "x.dwg", time.time_ns() // 10**9 * 10**9 + 3 * 3600 * 10**9
+        contents = [data for data in (drawn(20, seed) for seed in range(1, 500)) if len(data) == len(drawn(20, 1))][:2]
+        for data, status in zip(contents, (0, 73)):
+            source.write_bytes(data)
+            os.utime(source, ns=(ahead, ahead))
+            (row,) = self.grown(status, "--whole", "copy", source)
+            self.assertEqual((out.read_bytes(), self.logged()[0]["mtime_ns"]), (contents[0], None), row)
+        self.assertIn("changed though its size and time didn't", row["detail"])
+        # With a time of its own it is another file.
+        os.utime(source, ns=(ahead, ahead + 10**9))
+        self.grown(0, "--whole", "copy", source)
+        self.assertEqual(out.read_bytes(), contents[1])
 
     def test_log_has_a_line_once_of_what_a_file_became_by_itself(self) -> None:
         source, place = self.plans / "x.dwg", self.out / "plans" / "x.dwg"
