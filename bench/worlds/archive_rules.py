@@ -48,6 +48,11 @@ def spelled(folder: str, path: str) -> str:
     return "/" + os.path.normpath(os.path.join(os.path.realpath(head + up), rest) if up else rest).lstrip("/")
 
 
+def placed(path: str) -> str:
+    """A name of which the folder is gone through."""
+    return os.path.join(os.path.realpath(os.path.dirname(path)), os.path.basename(path))
+
+
 def is_gone(path: str) -> bool:
     """Whether no file has a name, nor a link that leads nowhere. Of what the system says nothing nobody knows that."""
     try:
@@ -85,6 +90,11 @@ class Kept:
         """All names of files."""
         return {*self.contents, *self.without}
 
+    def name_of(self, path: str) -> str:
+        """The name that LOG has for a file of a whole name: as it is spelled, or by another way to its folder; else as it is spelled."""
+        found = (name for name in sorted(self.names()) if placed(name) == placed(path))
+        return path if path in self.names() else placed(path) if placed(path) in self.names() else next(found, path)
+
 
 def read_log(path: str) -> Kept:
     """What LOG has; nothing where there is none."""
@@ -109,13 +119,22 @@ class Case:
     files: Snapshot
     files_after: Snapshot
 
+    def name_of(self, path: str) -> str:
+        """The name that LOG had for a file of the table."""
+        return self.before.name_of(spelled(self.ran.folder, path))
+
     def rows(self, *left_out: str) -> Iterator[Tuple[str, Dict[str, Any]]]:
-        """The lines of the table that have a content, without those of some verdicts, by the whole name as it is spelled."""
-        return ((spelled(self.ran.folder, row["path"]), row) for row in self.ran.rows if row["sha256"] and row["verdict"] not in left_out)
+        """The lines of the table that have a content, without those of some verdicts, by the name that LOG had for the file."""
+        return ((self.name_of(row["path"]), row) for row in self.ran.rows if row["sha256"] and row["verdict"] not in left_out)
 
     def is_below(self, name: str) -> bool:
-        """Whether the words name a file, or a folder that it stands in."""
-        return any(f"{name}/".startswith(top.rstrip("/") + "/") for top in self.tops)
+        """Whether the words name a file, or a folder that it stands in, as it is spelled or by another way to its folder."""
+        return any(f"{one}/".startswith(top.rstrip("/") + "/") for one in (name, placed(name)) for top in self.tops)
+
+    def is_walked(self, name: str) -> bool:
+        """Whether a file stands below a word by its name as it is spelled."""
+        tops = (spelled(self.ran.folder, word) for word in self.ran.words[self.ran.words.index("--") + 1 :]) if "--" in self.ran.words else ()
+        return any(f"{name}/".startswith(top.rstrip("/") + "/") for top in tops)
 
     def lost(self) -> Set[str]:
         """The names that LOG has no more."""
@@ -197,6 +216,14 @@ def tells_gone(case: Case) -> Iterator[str]:
         yield f"{gone} are gone, of which {told} are told"
 
 
+def looks_at_all(case: Case) -> Iterator[str]:
+    """With --follow each file of the words that LOG has is looked at, by whatever name its folder was walked."""
+    seen = {case.name_of(row["path"]) for row in case.ran.rows}
+    if "--follow" in case.ran.words:
+        left = (name for name in case.before.contents if name.endswith(".dwg") and name not in seen and case.is_walked(name) and not is_gone(name))
+        yield from (f"{name} wasn't looked at" for name in left)
+
+
 def has_table(case: Case) -> Iterator[str]:
     """LOG has what the table says, by the name that it says it of."""
     for path, row in case.rows("changed", "failed"):
@@ -212,8 +239,8 @@ def compares_truly(case: Case) -> Iterator[str]:
             yield f"{path} is called {row['verdict']}, and LOG has {had.get(path)} of it"
     for row in case.ran.rows:
         paths = [row["path"], *([row["kept"]["path"]] if row["kept"] else [])] if row["verdict"] in (*FAULTS, "moved") else []
-        told |= {spelled(case.ran.folder, path) for path in paths}
-        name = spelled(case.ran.folder, row["path"])
+        told |= set(map(case.name_of, paths))
+        name = case.name_of(row["path"])
         if row["verdict"] == "missing" and (name not in case.before.names() or not is_gone(name)):
             yield f"{name} is called missing"
     yield from (f"{name} hasn't the content that LOG has, which isn't told" for name, content in had.items() if digest(name) != content and name not in told)
@@ -225,5 +252,5 @@ ALWAYS: Tuple[Callable[[Case], Iterator[str]], ...] = (keeps_files, has_right_st
 
 def faults_of(case: Case) -> List[str]:
     """All that isn't as it must be. What wasn't told by a run that was cut off the next one tells."""
-    more = (compares_truly,) if case.ran.is_compared else () if case.ran.cut.kind else (tells_others, tells_gone, has_table)
+    more = (compares_truly,) if case.ran.is_compared else () if case.ran.cut.kind else (tells_others, tells_gone, looks_at_all, has_table)
     return [fault for rule in (*ALWAYS, *more) for fault in rule(case)]

@@ -13,7 +13,7 @@ from typing import IO, Any, Callable, Deque, Dict, Iterable, Iterator, List, Opt
 from .certificates import Certificates, refusal_of
 from .escapes import one_line
 from .inputs import bytes_of, is_hollow
-from .log import Contents, Names, content_of, is_away, is_gone, open_log, read_row, refuse_file
+from .log import LED_ELSEWHERE, Contents, Names, Places, content_of, is_away, is_gone, open_log, read_row, refuse_file
 from .log_lines import Maker, take_lines
 from .program import Program, ProgramFailed
 from .rows import Row, as_object
@@ -22,7 +22,7 @@ from .table import Form
 from .verdicts import Checker
 from .versions import LIMIT
 from .walking import Linked, Named
-from .whole_names import spelled_name
+from .whole_names import absolute_name
 
 # What a file is found to be beside what LOG has of it, and which of these are told by the status.
 STATES = ("same", "changed", "missing", "new", "moved", "not accepted", "unreadable", "failed")
@@ -71,35 +71,49 @@ class Kept(Contents):
             raise ToolError(f"{self.name}: {fault.strerror}", Exit.FAILURE) from None
         if not self:
             raise ToolError(f"{self.name} has no file", Exit.NOTHING_FOUND)
+        self._places = Places({*self, *self.without})
 
     def _take(self, told: Dict[str, Any], maker: Optional[Maker]) -> None:
         row = read_row(told)
         for name in self._names_of.of(told, maker):
             self.take(name, row)
 
+    def name_of(self, path: str) -> str:
+        """The name under which LOG has a file, or would have it."""
+        return self._places.name_of(path)
+
+    def has_at(self, place: str) -> bool:
+        """Whether LOG has what stands in a real folder."""
+        return self._places.name_at(place) in self
+
     def named(self, absolute: str) -> Row:
         """What LOG has of a file, by the name that the words had, where that leads there from here, and else by its whole name."""
         row = self[absolute] if absolute in self else self.without[absolute]
-        return row if spelled_name(row.path) == absolute else replace(row, path=absolute)
+        return row if self.name_of(row.path) == absolute else replace(row, path=absolute)
 
 
 class Missing:
     """Names of LOG at which nothing is, by what they had. A new file that has the content of one is that file, moved."""
 
-    def __init__(self, kept: Iterable[Row]) -> None:
+    def __init__(self, gone: Iterable[Row], kept: Kept) -> None:
+        self._kept = kept
         self._left: Dict[Tuple[Optional[str], Optional[int]], Deque[Row]] = {}
-        for row in kept:
+        for row in gone:
             self._left.setdefault(content_of(row), collections.deque()).append(row)
         self._verdicts = {content: rows[0].verdict for content, rows in self._left.items()}
+        # Where files are that were found to be missing ones.
+        self._places: Set[str] = set()
 
     def verdict_of(self, row: Row) -> Optional[str]:
         """The verdict of the content of a new file, where something missing had that."""
         return self._verdicts.get(content_of(row))
 
     def take(self, row: "Compared") -> None:
-        """Has a new file be a missing one, where one of its content is left; of two copies of a single one the second is new."""
-        left = self._left.get(content_of(row))
-        if left:
+        """Has a new file be a missing one, where one of its content is left; of two copies of a single one the second is new, and so is a link to what LOG
+        has, or to one that was found."""
+        left, place = self._left.get(content_of(row)), absolute_name(row.path)
+        if left and place not in self._places and not self._kept.has_at(place):
+            self._places.add(place)
             row.kept = left.popleft()
             row.detail = "; ".join(filter(None, [f"{row.kept.path} -> {row.path}", row.detail]))
         elif row.verdict in ("moved", "not accepted"):
@@ -119,15 +133,18 @@ class Comparer(Checker):
 
     def compared(self, one: Named) -> Row:
         """The line of a file: whatever happens to it, there is one."""
-        kept = self._kept.get(spelled_name(one.path))
+        name = self._kept.name_of(one.path)
+        kept = self._kept.get(name)
         found = Row(one.path, "unreadable", one.fault) if one.fault is not None else self.check(one.path)
+        if self._kept.name_of(one.path) != name:
+            found = Row(one.path, "failed", LED_ELSEWHERE)
         row = found if isinstance(found, Compared) else Compared(**vars(found), kept=kept, is_new=kept is None)
         if row.verdict == "unreadable" and kept is not None and is_away(one.path):
             row.verdict, row.detail = "missing", ""
         return row
 
     def checked(self, file: IO[bytes], row: Row) -> Row:
-        told, kept = os.fstat(file.fileno()), self._kept.get(spelled_name(row.path))
+        told, kept = os.fstat(file.fileno()), self._kept.get(self._kept.name_of(row.path))
         line = Compared(row.path, "new", bytes=told.st_size, mtime_ns=told.st_mtime_ns, kept=kept, is_new=kept is None)
         line.sha256 = None if is_hollow(file, told.st_size) else self.digest(file, told.st_size)
         had = self._missing.verdict_of(line) if kept is None else kept.verdict
@@ -187,7 +204,7 @@ def planned(found: Iterable[Named], kept: Kept) -> Tuple[List[Named], List[Row]]
     plan: List[Named] = []
     seen: Set[str] = set()
     for one in found:
-        name = spelled_name(one.path)
+        name = kept.name_of(one.path)
         # (a word may name a file that is missing)
         if name not in seen and not (name in kept and is_away(one.path)):
             seen.add(name)

@@ -19,7 +19,7 @@ from .crew import in_order
 from .escapes import one_line
 from .inputs import from_begin, pieces_of
 from .jobs import most_at_once
-from .log import WHOLE, digest_of_program
+from .log import LED_ELSEWHERE, WHOLE, digest_of_program
 from .outputs import Spot, WholeFile, is_as_judged, mask_of_modes
 from .pairs import Written, alone_beside, place_alone, place_both
 from .program import Answer, Patience, Program, ProgramFailed, ready_program
@@ -28,7 +28,7 @@ from .rows import Row
 from .statuses import Exit, Status, ToolError
 from .streams import tell
 from .table import Progress
-from .tree_lines import LED_ELSEWHERE, Line, Made, State, TreeTable, line_of_row, losses_told
+from .tree_lines import Line, Made, State, TreeTable, line_of_row, losses_told
 from .tree_log import TreeLog, names_of, state_of
 from .trees import LOG_NAME, NOTES, Planned, Sources, alike, is_spelled_so, left_behind, most_open, opened_folder, planned, refuse_folders, refuse_read
 from .verdicts import Checker

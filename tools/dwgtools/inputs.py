@@ -187,13 +187,14 @@ def is_hollow(file: IO[bytes], size: int) -> bool:
             begin = os.lseek(handle, at, os.SEEK_DATA)
             at = os.lseek(handle, begin, os.SEEK_HOLE)
             held += at - begin
-        # (a file system that doesn't tell of holes tells how much it has)
-        return size > MOST_UNTOLD and MOST_HOLLOW * 512 * os.fstat(handle).st_blocks < size
     except (OSError, AttributeError) as fault:
         # (there is nothing but a hole after this)
-        return isinstance(fault, OSError) and fault.errno == errno.ENXIO
+        if isinstance(fault, OSError) and fault.errno == errno.ENXIO:
+            return True
     finally:
         os.lseek(handle, before, os.SEEK_SET)
+    # (a file system that doesn't tell of holes tells how much it has)
+    return size > MOST_UNTOLD and MOST_HOLLOW * 512 * os.fstat(handle).st_blocks < size
 
 
 def bytes_of(file: IO[bytes], most: int) -> bytes:

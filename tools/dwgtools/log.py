@@ -12,7 +12,7 @@ import re
 import stat
 import threading
 from dataclasses import asdict, dataclass, replace
-from typing import IO, Any, Callable, Collection, Dict, Iterable, List, Optional, Set, Tuple
+from typing import IO, Any, Callable, Collection, Dict, Iterable, Iterator, List, Optional, Set, Tuple
 
 from .arguments import commit
 from .escapes import one_line
@@ -43,6 +43,9 @@ FULL = (errno.ENOSPC, errno.EDQUOT, errno.EIO, errno.EFBIG)
 
 # The time of a line that has none, which no file has.
 UNTIMED = -(1 << 96)
+
+# What is said of a file whose name was another before than after it was read.
+LED_ELSEWHERE = "its name led to another file while it was read"
 
 # How often LOG is read at the most, by its size, to see whether it still stands: who touches it all the time doesn't hold the run up.
 MOST_LOOKS = 8
@@ -99,8 +102,13 @@ def nearest_folders(folders: Iterable[str]) -> Dict[str, Optional[str]]:
 
 
 def names_of_words(words: Iterable[str]) -> Set[str]:
-    """The whole names of words."""
-    return {spelled_name(word) for word in filter(None, words)}
+    """The whole names of words, each as it is spelled and as it leads somewhere."""
+    return {name for word in filter(None, words) for name in (spelled_name(word), absolute_name(word))}
+
+
+def is_below(folder: str, tops: Set[str]) -> bool:
+    """Whether a folder is one of the words or below one, as it is spelled or where it leads."""
+    return bool(top_of(folder, tops) or top_of(absolute_name(folder), tops))
 
 
 def inner_folders(folder: str) -> Optional[List[str]]:
@@ -115,8 +123,9 @@ def inner_folders(folder: str) -> Optional[List[str]]:
     return inner
 
 
-def has_file(folder: str, empty: Set[str]) -> bool:
-    """Whether a folder has a regular file, in itself or deeper; `empty` gets those that have none. (Folders may stand in each other by thousands.)"""
+def has_file(folder: str, empty: Set[str], full: Set[str]) -> bool:
+    """Whether a folder has a regular file, in itself or deeper; those that are found to have none, or to have one, are known from then on. (Folders may
+    stand in each other by thousands.)"""
     way: List[Tuple[str, List[str]]] = [("", [folder])]
     while way:
         at, left = way[-1]
@@ -125,8 +134,9 @@ def has_file(folder: str, empty: Set[str]) -> bool:
             way.pop()
             continue
         one = left.pop()
-        inner = [] if one in empty else inner_folders(one)
+        inner = [] if one in empty else None if one in full else inner_folders(one)
         if inner is None:
+            full |= {one, *(at for at, _ in way)}
             return True
         way.append((one, inner))
     return False
@@ -135,10 +145,51 @@ def has_file(folder: str, empty: Set[str]) -> bool:
 def folders_with_files(names: Collection[str]) -> Dict[str, str]:
     """Of each file that is gone the nearest folder that is there, where that has a file; one in which a volume isn't mounted has none."""
     empty: Set[str] = set()
+    full: Set[str] = set()
     nearest = nearest_folders({os.path.dirname(name) for name in names})
-    full = {near for near in {*nearest.values()} if near is not None and has_file(near, empty)}
+    have = {near for near in {*nearest.values()} if near is not None and has_file(near, empty, full)}
     found = ((name, nearest[os.path.dirname(name)]) for name in names)
-    return {name: near for name, near in found if near is not None and near in full}
+    return {name: near for name, near in found if near is not None and near in have}
+
+
+class Places:
+    """Where the folders of the names of LOG are now, by which a file is known again that is named by another way to its folder. None is asked for but
+    those of names with the same end: one may stand on a server that is down."""
+
+    def __init__(self, names: Collection[str]) -> None:
+        self._names = names
+        self._ending: Optional[Dict[str, List[str]]] = None
+        # By the end of a name the names of LOG, by the places where they stand now.
+        self._led: Dict[str, Dict[str, str]] = {}
+
+    def name_of(self, path: str) -> str:
+        """The name that LOG has for a file: as it is spelled, whatever stands there now, else by its folder, and else as it is spelled all the same."""
+        spelled = spelled_name(path)
+        if spelled in self._names:
+            return spelled
+        place = placed(spelled)
+        name = self.name_at(place)
+        return spelled if name == place and name not in self._names else name
+
+    def name_at(self, place: str) -> str:
+        """The name that LOG has for what stands in a real folder, or that place."""
+        return place if place in self._names else self._led_to(os.path.basename(place)).get(place, place)
+
+    def _led_to(self, last: str) -> Dict[str, str]:
+        """The names of LOG with an end, by the places where they stand now."""
+        if self._ending is None:
+            self._ending = {}
+            for name in sorted(self._names, reverse=True):
+                self._ending.setdefault(os.path.basename(name), []).append(name)
+        if last not in self._led:
+            self._led[last] = {placed(name): name for name in self._ending.get(last, ())}
+        return self._led[last]
+
+
+def placed(name: str) -> str:
+    """A whole name of which the folder is the real one."""
+    folder, last = os.path.split(name)
+    return os.path.join(absolute_name(folder), last)
 
 
 @dataclass
@@ -179,7 +230,7 @@ FIRST_SPELLED = 3
 
 
 class Names:
-    """The names of the file of each line. Older tools had a file by the name to which links led: it stands for each name that led there too."""
+    """The names of the file of each line. Older tools had a file by the name to which links led: it stands for each link too, but for one to its folder."""
 
     def __init__(self) -> None:
         self._led: Dict[str, str] = {}
@@ -194,7 +245,7 @@ class Names:
         # (of what can't be read, or changed by itself, nobody knows where a link leads)
         if told["verdict"] not in ("unreadable", "changed"):
             self._drop(name)
-            if isinstance(link, str) and is_name(link):
+            if isinstance(link, str) and is_name(link) and placed(link) != name:
                 self._drop(link)
                 self._led[link] = name
                 self._leading.setdefault(name, set()).add(link)
@@ -212,13 +263,13 @@ def content_of(row: Row) -> Tuple[Optional[str], Optional[int]]:
     return row.sha256, row.bytes
 
 
-def is_among(name: str, tops: Set[str]) -> bool:
-    """Whether a whole name is one of these, or below one."""
+def top_of(name: str, tops: Set[str]) -> str:
+    """Which of some whole names a name is, or is below, the nearest one; nothing where it is none."""
     while name not in tops:
         name, below = os.path.dirname(name), name
         if name == below:
-            return False
-    return True
+            return ""
+    return name
 
 
 def read_refusal(told: Any) -> Optional[Refusal]:
@@ -358,8 +409,10 @@ class Log:
         self._contents: Dict[str, Row] = {}
         # Why each file couldn't be read of which the last line says so.
         self._unreadable: Dict[str, str] = {}
-        # What LOG had when the run began, and what was found under names that it didn't have.
+        # What LOG had when the run began, and what was found under names that it didn't have, by the places where that really is.
         self._before, self._names_of = Contents(), Names()
+        self._names: Set[str] = set()
+        self._places = Places(self._names)
         self._new: Dict[str, Row] = {}
         # Files of LOG that have another content than it had, and not by themselves.
         self.others: Set[str] = set()
@@ -389,6 +442,8 @@ class Log:
         self._file.seek(0)
         read = take_lines(seen.readline, lambda told, maker: self.take_line(told, maker, maker == own), self.name, self._tell)
         self._seen = seen
+        self._names = {*self._before, *self._before.without}
+        self._places = Places(self._names)
         try:
             if not read.is_ended:
                 self._append(b"")
@@ -438,7 +493,7 @@ class Log:
 
     def name_of(self, path: str) -> str:
         """The name under which LOG has a file, or would have it."""
-        return spelled_name(path)
+        return self._places.name_of(path)
 
     def has_digest(self, path: str) -> bool:
         """Whether LOG had the SHA-256 of a file when the run began, whatever that was then."""
@@ -485,9 +540,10 @@ class Log:
                 self._take_new(name, row)
 
     def _take_new(self, name: str, row: Row) -> None:
-        """Takes note of what LOG has now by a name that it had nothing by."""
-        if name not in self._before:
-            self._new[name] = row
+        """Takes note of what LOG has now by a name that it had nothing by, and where that really is; nothing is new by a link to what it has."""
+        place = absolute_name(row.path)
+        if name not in self._before and self._places.name_at(place) not in self._before:
+            self._new[place] = row
 
     def moved(self, gone: Iterable[str]) -> List[str]:
         """Those of the files that are gone, of each of which the content was found under a new name."""
@@ -503,8 +559,17 @@ class Log:
         """The names of LOG at which no file is any more, which the words named or which stand below these, in their order."""
         tops, names = names_of_words(words), {*self._before, *self._before.without}
         # (many files stand in one folder)
-        folders = {folder for folder in {os.path.dirname(name) for name in names} if is_among(folder, tops)}
-        return sorted(name for name in names if (name in tops or os.path.dirname(name) in folders) and self._is_away(name))
+        folders = {folder for folder in {os.path.dirname(name) for name in names} if is_below(folder, tops)}
+        return sorted(name for name in names if (os.path.dirname(name) in folders or {name, placed(name)} & tops) and self._is_away(name))
+
+    def below(self, words: Iterable[str]) -> Iterator[Tuple[str, str]]:
+        """The names of files of LOG that stand below these words, in their order, each with the whole name of the word."""
+        tops = {spelled_name(word) for word in filter(None, words)}
+        found = {folder: top_of(folder, tops) for folder in {os.path.dirname(name) for name in self._before}}
+        for name in sorted(self._before):
+            top = found[os.path.dirname(name)]
+            if top:
+                yield name, top
 
     def _is_away(self, name: str) -> bool:
         """Whether what LOG has by a name isn't there any more; of what could never be read, as a folder, whether anything is."""
@@ -516,11 +581,14 @@ class Log:
             self._before.forget(name)
             self.add_line(name, Forgotten(name, "unreadable", GONE))
 
-    def kept(self, row: Row) -> Row:
-        """The line of a file that was looked at, kept in LOG: `changed` where its first content of this size and time was another."""
+    def kept(self, row: Row, before: str) -> Row:
+        """The line of a file that was looked at, kept in LOG: `changed` where its first content of this size and time was another. Of one whose name
+        before that was another nobody knows which file it is of."""
         if row.verdict == "failed" and not row.lasting:
             return row
         name = self.name_of(row.path)
+        if name != before:
+            return Row(row.path, "failed", LED_ELSEWHERE)
         if row.verdict == "unreadable" and row.detail in (GONE, NO_FOLDER) and self._before.has(name):
             # (LOG forgets nothing by itself)
             return row

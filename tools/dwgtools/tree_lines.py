@@ -8,6 +8,7 @@ from dataclasses import dataclass, field
 from typing import Any, Dict, Optional, Tuple
 
 from .escapes import one_line
+from .log import LED_ELSEWHERE
 from .notes import MAPPING
 from .rows import Row
 from .statuses import Exit, Status, ToolError
@@ -16,9 +17,6 @@ from .statuses import Exit, Status, ToolError
 COLUMNS = ("path", "outcome", "detail", "kept", "lost", "found", "findings", "status", "output")
 # What stands for a number that isn't known.
 UNKNOWN = "?"
-
-# What is said of a file whose name was another before than after it was read.
-LED_ELSEWHERE = "its name led to another file while it was read"
 
 # What a file ends with that isn't damaged, as `dwg-recover` over it alone would; of those that failed `STATUS_OF_FAILED` has some.
 STATUS_OF = {

@@ -5,7 +5,7 @@ from __future__ import annotations
 import os
 import time
 from dataclasses import dataclass, fields, replace
-from typing import Any, Callable, Collection, Dict, FrozenSet, Optional, Set, Tuple
+from typing import Any, Callable, Dict, FrozenSet, Optional, Set, Tuple
 
 from .escapes import one_line
 from .log import DIGEST, LEAST, MOST, Key, Log, is_name
@@ -15,7 +15,7 @@ from .rows import Row
 from .statuses import Exit, ToolError
 from .tree_lines import Line, Made, State
 from .trees import NOTES
-from .whole_names import absolute_name, spelled_name
+from .whole_names import absolute_name
 
 # The numbers of what was written.
 NUMBERS = ("kept", "lost", "found", "findings")
@@ -90,33 +90,6 @@ def key_of(line: Line) -> Key:
     return line.source, line.bytes or 0, line.mtime_ns or 0
 
 
-class Places:
-    """Where the folders of the names of LOG are now, by which a file is known again: a folder may have become a link since LOG has it."""
-
-    def __init__(self, names: Collection[str]) -> None:
-        self._names = names
-        self._led: Dict[str, str] = {}
-        # (many files stand in one folder)
-        folders: Dict[str, str] = {}
-        for name in names:
-            folder, last = os.path.split(name)
-            if folder not in folders:
-                folders[folder] = absolute_name(folder)
-            if folders[folder] != folder:
-                self._led.setdefault(os.path.join(folders[folder], last), name)
-
-    def name_of(self, path: str) -> str:
-        """The name that LOG has for a file: as it is spelled, whatever stands there now, else by its folder, and else its whole name."""
-        spelled = spelled_name(path)
-        if spelled in self._names:
-            return spelled
-        name, (folder, last) = absolute_name(path), os.path.split(spelled)
-        for place in (os.path.join(absolute_name(folder), last), name):
-            if place in self._names or place in self._led:
-                return place if place in self._names else self._led[place]
-        return name
-
-
 @dataclass(frozen=True)
 class Output:
     """What LOG has of a name below OUT: of which file the output is, the SHA-256 of each that may stand there as a run's own, and that of the one that
@@ -146,21 +119,16 @@ class TreeLog(Log):
         self._contents_of: Dict[Tuple[str, str], Set[str]] = {}
         # Why LOG can't be on the disk, which is its fault once all is taken back that wasn't placed.
         self._unsynced = ""
-        self._names: Set[str] = set()
-        self._places = Places(self._names)
         super().__init__(path, tell_fault, mode)
 
-    def begin(self, program: str) -> None:
-        super().begin(program)
-        self._places = Places(self._names)
-
     def name_of(self, path: str) -> str:
-        return self._places.name_of(path)
+        """The name that LOG has for a file, by a link that it is too, or its whole name, whatever links lead there."""
+        name = self._places.name_of(path)
+        return name if name in self._names else self._places.name_at(absolute_name(path))
 
     def take_line(self, told: Dict[str, Any], maker: Optional[Maker], is_current: bool) -> None:
         made = read_made(told.get("made"))
         super().take_line(told, maker, is_current)
-        self._names.add(told["absolute"])
         if made is None:
             return
         self._note(made, told["absolute"], told.get("sha256"))

@@ -53,9 +53,19 @@ class Walk:
         """Whether an entry that is no folder is taken."""
         return (self.every or entry.name.lower().endswith(self.endings)) and (self.follow or not is_link(entry))
 
-    def leaves_out(self, entry: "os.DirEntry[str]", top: str) -> bool:
+    def leaves_out(self, path: str, top: str) -> bool:
         """Whether an entry is left out, by its name or by its path below the folder that the walk began in."""
-        return bool(self.left_out) and any(one.match(entry.name) or one.match(below(entry.path, top)) for one in self.left_out)
+        return bool(self.left_out) and any(one.match(os.path.basename(path)) or one.match(below(path, top)) for one in self.left_out)
+
+    def would_take(self, path: str, top: str) -> bool:
+        """Whether a file is taken that stands in the folder that the walk began in, or deeper, if its folders are walked."""
+        if not self.every and not path.lower().endswith(self.endings):
+            return False
+        while self.left_out and len(path) > len(top):
+            if self.leaves_out(path, top):
+                return False
+            path = os.path.dirname(path)
+        return True
 
 
 def below(path: str, top: str) -> str:
@@ -169,7 +179,7 @@ def entries_of(folder: Entry, walk: Walk, top: str) -> Iterator[Entry]:
                 found.append(entry)
         except OSError as fault:
             broken = fault
-    for entry in sorted((one for one in found if not walk.leaves_out(one, top)), key=lambda one: os.fsencode(one.name)):
+    for entry in sorted((one for one in found if not walk.leaves_out(one.path, top)), key=lambda one: os.fsencode(one.name)):
         is_one = is_folder(entry, walk.follow)
         # (what may be a folder is told, whatever it is called)
         if is_one or is_one is None or walk.takes(entry):

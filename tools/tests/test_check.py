@@ -1008,8 +1008,13 @@ class Logs(Base):
                 ran = tool("dwg-check", "--quiet", *words, *options, self.folder / "d") if options else self.resume(*words)
                 lines = [line.split("\t")[:3] for line in ran.stdout.decode().replace(f"{self.folder}/d/", "").splitlines()[1:]]
                 self.assertEqual((ran.returncode, lines), (68 if options else 1, [["a.dwg", "same" if options else "sound", ""], *([name, "unreadable", "it is LOG"] for name in names)]), (words, options))
-        for name in ("hard.dwg", "symbolic.dwg"):
-            (self.folder / "d" / name).unlink()
+        (self.folder / "d" / "hard.dwg").unlink()
+        (self.folder / "d" / "symbolic.dwg").unlink()
+        # Also where LOG has nothing yet, and whoever makes a link knows nothing of it.
+        (self.folder / "d" / "open.dwg").symlink_to("/proc/self/fd/3")
+        ran = tool("dwg-check", "--quiet", "--follow", "--resume", self.folder / "new", self.folder / "d")
+        self.assertEqual((ran.returncode, ran.stdout.count(b"\tsound\t"), len((self.folder / "new").read_bytes().splitlines()) > 1), (1, 1, True), ran)
+        (self.folder / "d" / "open.dwg").unlink()
         os.rename(self.log, self.folder / "d" / "log")
         self.log.symlink_to("d/log")
         self.assertEqual(self.resume("--all").returncode, 0)

@@ -469,7 +469,7 @@ class Fixity(common.InFolder):
         """One that doesn't fit beside its drawing into what `accept` takes is kept, and told."""
         self.keep()
         kept, certificates = Kept(str(self.log), self.fail), Certificates(str(self.log), self.fail)
-        comparer = Comparer(Program(made.PROGRAM), kept, Missing([]), certificates)
+        comparer = Comparer(Program(made.PROGRAM), kept, Missing([], kept), certificates)
         size = len(self.data["a.dwg"]) + self.certificate("a.dwg").stat().st_size
         for most, said in ((size, ""), (size - 1, f"`accept` takes no more than {size - 1} bytes of certificate and drawing")):
             with unittest.mock.patch("dwgtools.comparing.LIMIT", most):
@@ -664,32 +664,29 @@ class Fixity(common.InFolder):
         self.assertEqual([row[:2] for row in self.said(ran)], [["a.dwg", "same"], ["b.dwg", "new"], ["deep/c.dwg", "new"], [r"o\xffd\n.dwg", "same"], ["x.dwg", "new"]])
 
     def test_a_folder_or_file_that_became_a_link(self) -> None:
-        """What is found under a name of LOG is compared with what LOG has of that name; what leads there by another name is another file of LOG."""
+        """What is found under a name of LOG is compared with what LOG has of that name, and each file is told once, by whatever spelling."""
         self.keep()
         real = self.folder / "real"
         os.rename(self.archive, real)
         self.archive.symlink_to("real")
         names = {name: "same" for name in self.data}
-        self.assertEqual((self.compared(), {path.replace("../d/", ""): said for path, said in self.compared(self.folder / "d" / ".." / "d").items()}), (names, names))
-        new = {str(real / name): "new sound" if name != "x.dwg" else "new damaged: file 0 at 0: short" for name in self.data}
-        told = self.compared(real)
-        self.assertEqual(({name: told[name] for name in names}, {name: told[name].split()[0] for name in new}), (names, dict.fromkeys(new, "new")))
+        for word in (self.archive, real, self.folder / "d" / "deep" / ".." / ".." / "d"):
+            ran = self.compare(word)
+            self.assertEqual([row[1] for row in self.said(ran)], ["same"] * 4, word)
+        self.assertEqual((self.compared(), self.compare(self.archive, real).stdout.count(b"\n")), (names, 5))
         before = self.log.read_bytes()
-        self.assertEqual((self.keep().stderr, self.log.read_bytes()), (b"", before))
-        # By the folder's new name LOG has them too then, and each is told by each name.
-        self.assertEqual((self.keep(real).stderr, self.log.read_bytes()[: len(before)]), (b"", before))
-        self.assertEqual(self.compared(), {**names, **dict.fromkeys(new, "same")})
+        self.assertEqual((self.keep().stderr, self.keep(real).stderr, self.log.read_bytes()), (b"", b"", before))
         self.change("b.dwg")
-        same_size = "changed of the same size and time"
         for words in ([self.archive], [real], [self.archive, real], [self.archive / "b.dwg"]):
-            self.assertEqual({name: said for name, said in self.compared(*words).items() if said != "same"}, {"b.dwg": same_size, str(real / "b.dwg"): same_size}, words)
+            ran = self.compare(*words)
+            self.assertEqual((ran.returncode, [row[1:] for row in self.said(ran) if row[1] != "same"]), (68, [["changed", "of the same size and time"]]), words)
         seen = tool("dwg-check", "--quiet", "--resume", self.log, "--verify", self.archive)
         self.assertEqual((seen.returncode, seen.stdout.count(b"\tchanged\t")), (1, 1))
         self.file("d/b.dwg", self.data["b.dwg"])
         # What is gone beyond the link is gone.
         (real / "deep" / "c.dwg").unlink()
-        self.assertEqual(self.keep().stderr, self.gone(False, "deep/c.dwg"))
-        self.assertIn(f"the first is {real}/deep/c.dwg\n", self.keep(real).stderr.decode())
+        for word in (self.archive, real):
+            self.assertEqual(self.keep(word).stderr, self.gone(False, "deep/c.dwg"))
         # A file that became a link to another of LOG, or to a new one.
         self.file("d/n.dwg", made.made(9))
         for leads in ("a.dwg", "n.dwg"):
@@ -749,38 +746,39 @@ class Fixity(common.InFolder):
         self.assertEqual((run().returncode, told(run())[str(link)]), (0, "same"))
 
     def test_a_log_of_an_older_tool_that_has_links(self) -> None:
-        """It has files by the names to which links led. They stay names, beside those by which they were reached, of which the last lines tell."""
+        """It has files by the names to which links led: a link to a folder leads there still, and one to a file has what its last line had."""
         self.keep()
         head, *lines = self.lines()
-        link = self.folder / "link"
+        link, file = self.folder / "link", self.folder / "l.dwg"
         link.symlink_to("d")
+        file.symlink_to("d/a.dwg")
         by_link = {name: str(link / name) for name in self.data}
         lines = [{**line, "path": by_link[name], "link": by_link[name]} for line in lines for name in [os.path.relpath(line["path"], self.archive)]]
-        # One was read by its own name since, and another is a file by the name of the link.
-        (a, b), more = ([line for line in lines if line["path"].endswith(name)][0] for name in ("a.dwg", "b.dwg")), made.made(40)
-        direct = {**a, "path": a["absolute"], "sha256": sha(more), "bytes": len(more)}
-        del direct["link"]
-        own = {**b, "absolute": b["link"], "sha256": sha(more), "bytes": len(more)}
-        del own["link"]
-        older = made.log_of([{**head, "rules": 2}, *lines])
+        first = next(line for line in lines if line["path"].endswith("/a.dwg"))
+        older = made.log_of([{**head, "rules": 2}, *lines, {**first, "path": str(file), "link": str(file)}])
         self.log.write_bytes(older)
-        told = self.compared(link)
-        self.assertEqual(told, {**dict.fromkeys(self.data, "same"), **dict.fromkeys(by_link.values(), "same")})
-        self.assertEqual(self.compared("--", self.archive / "a.dwg"), told)
-        self.log.write_bytes(older + made.log_of([direct, own]))
+        told = {**dict.fromkeys(by_link.values(), "same"), str(file): "same"}
+        for words in ([link, file], [link], [file, link]):
+            self.assertEqual(self.compared(*words), told, words)
+        # One that leads elsewhere, and a file that was read by its own name since.
+        file.unlink()
+        file.symlink_to("d/b.dwg")
+        self.assertEqual(self.compared(file, link), {**told, str(file): f"changed it had {len(self.data['a.dwg'])} bytes"})
+        file.unlink()
+        file.symlink_to("d/a.dwg")
+        more = made.made(40)
+        self.log.write_bytes(older + made.log_of([{**{name: first[name] for name in first if name != "link"}, "path": first["absolute"], "sha256": sha(more), "bytes": len(more)}]))
         other = f"changed it had {len(more)} bytes"
-        self.assertEqual(self.compared(link), {**told, "a.dwg": other, by_link["a.dwg"]: other, by_link["b.dwg"]: other})
-        # What changed by itself is told by the name of the link, as before.
+        self.assertEqual(self.compared(link, file), {**told, by_link["a.dwg"]: other, str(file): other})
+        # What changed by itself is told, by whatever name, as before.
         self.log.write_bytes(older)
-        self.change("b.dwg")
+        self.change("a.dwg")
         same_size = "changed of the same size and time"
-        self.assertEqual({name: said for name, said in self.compared(link).items() if said != "same"}, {"b.dwg": same_size, by_link["b.dwg"]: same_size})
-        ran = tool("dwg-check", "--quiet", "--resume", self.log, "--verify", link)
-        self.assertEqual(ran.stdout.count(b"\tchanged\t"), 1)
-        # Lines of this tool are of the one name that they have.
-        self.file("d/b.dwg", more)
-        self.assertIn(f"the first is {self.archive}/b.dwg\n", self.keep().stderr.decode())
-        self.assertEqual({name: said for name, said in self.compared(link).items() if said != "same"}, {by_link["b.dwg"]: f"changed it had {len(self.data['b.dwg'])} bytes"})
+        self.assertEqual(self.compared(link, file), {**told, by_link["a.dwg"]: same_size, str(file): same_size})
+        for word in (link, file):
+            self.log.write_bytes(older)
+            ran = tool("dwg-check", "--quiet", "--resume", self.log, "--verify", word)
+            self.assertEqual(ran.stdout.count(b"\tchanged\t"), 1, word)
 
     def test_a_replaced_file_beyond_a_new_link_is_changed_for_resume_too(self) -> None:
         """One that is sound, of the same size and time."""

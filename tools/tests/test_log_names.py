@@ -6,6 +6,7 @@ import hashlib
 import os
 import pathlib
 import random
+import re
 import shutil
 import subprocess
 import sys
@@ -21,7 +22,7 @@ import test_limits
 from made import TOOLS, program_that, tool
 
 from dwgtools import verdicts
-from dwgtools.log import Log
+from dwgtools.log import Log, folders_with_files
 from dwgtools.program import Program
 from dwgtools.verdicts import Checker
 from dwgtools.whole_names import absolute_name
@@ -252,7 +253,7 @@ class Names(common.InFolder):
         self.assertEqual(self.keep("--follow", archive), [both("which it keeps (--forget has it forget them)")])
 
     def test_a_file_that_was_a_link_once_is_compared_by_its_own_content(self) -> None:
-        """Also where LOG took it by another name since, which is another file of LOG."""
+        """Also where LOG took it by another way to its folder since."""
         first, second = self.volume("v", "a.dwg"), self.volume("w", "b.dwg")
         (first / "f.dwg").symlink_to(second / "b.dwg")
         (self.folder / "a").mkdir()
@@ -260,14 +261,11 @@ class Names(common.InFolder):
         self.assertEqual(self.keep("--follow", first), [])
         (first / "f.dwg").unlink()
         (first / "f.dwg").write_bytes(made.made(40, 40))
-        self.assertEqual(self.keep("--follow", self.folder / "a"), [])
-        other = f"changed it had {len(DATA['b.dwg'])} bytes"
-        self.assertEqual(self.compare(), (68, {"a/d/a.dwg": "same", "a/d/f.dwg": "same", "v/a.dwg": "same", "v/f.dwg": other}))
         taken = "1 of its files have another content now, which it takes; the first is v/f.dwg"
-        self.assertEqual((self.keep("--follow", first), self.compare()[0]), ([taken], 0))
+        self.assertEqual((self.keep("--follow", self.folder / "a"), self.compare()[0]), ([taken], 0))
         os.replace(shutil.copy(second / "b.dwg", self.folder / "b.dwg"), first / "f.dwg")
         other = "changed it had " + str(len(made.made(40, 40))) + " bytes"
-        self.assertEqual(self.compare()[1], {"a/d/a.dwg": "same", "a/d/f.dwg": other, "v/a.dwg": "same", "v/f.dwg": other})
+        self.assertEqual(self.compare(first)[1], {"v/a.dwg": "same", "v/f.dwg": other})
         self.assertEqual(self.keep("--follow", first), [taken])
 
     def test_a_link_to_a_file_that_was_moved_is_compared_by_what_it_had(self) -> None:
@@ -335,21 +333,20 @@ class Names(common.InFolder):
         self.assertEqual(self.compare(), (0, {"d/b.dwg": "same"}))
 
     def test_another_spelling_of_what_was_forgotten(self) -> None:
-        """It is missing by itself, as a name of its own."""
+        """What a word leads to is gone by each name that leads there, and by its own name what leads elsewhere now."""
         first, second = self.volume("first", "a.dwg", "b.dwg"), self.volume("second", "c.dwg")
         current = self.folder / "current"
         current.symlink_to(first)
         self.assertEqual(self.keep(current, first), [])
         (first / "a.dwg").unlink()
-        self.assertEqual(self.keep("--forget", first), ["1 of its files are gone, and it has them no more; the first is first/a.dwg"])
-        self.assertEqual(self.compare(), (68, {"first/b.dwg": "same", "current/b.dwg": "same", "current/a.dwg": "missing"}))
-        # By its name it is forgotten, wherever the link leads.
         before = self.log.read_bytes()
+        self.assertEqual(self.keep("--forget", first), ["2 of its files are gone, and it has them no more; the first is current/a.dwg"])
+        self.assertEqual(self.compare(), (0, {"first/b.dwg": "same", "current/b.dwg": "same"}))
         for target in (second, first):
             current.unlink()
             current.symlink_to(target)
             self.log.write_bytes(before)
-            self.assertEqual(self.keep("--forget", "--null", "-", given=os.fsencode(current / "a.dwg") + b"\0"), ["1 of its files are gone, and it has them no more; the first is current/a.dwg"], target)
+            self.assertEqual(self.keep("--forget", "--null", "-", given=os.fsencode(current / "a.dwg") + b"\0"), [f"{1 + (target == first)} of its files are gone, and it has them no more; the first is current/a.dwg"], target)
 
     def test_nothing_is_forgotten_that_cannot_be_told(self) -> None:
         volume = self.volume("d", "a.dwg", "b.dwg", "c.dwg")
@@ -376,6 +373,68 @@ class Names(common.InFolder):
             states = {name: said.split()[0] for name, said in self.compare(volume)[1].items()}
             self.assertEqual(states, {"d/a.dwg": "changed", "d/c.dwg": "same", "d/new.dwg": "same"})
         self.assertEqual(tool("dwg-check", "--add", "--resume", self.log, volume).returncode, 64)
+
+    def test_a_new_link_to_a_folder_keeps_nothing_from_being_looked_at(self) -> None:
+        """The folder is walked by the first name that leads to it, and what LOG has by others is looked at by these."""
+        volume = self.volume("d/plans", *DATA).parent
+        self.volume("elsewhere", "a.dwg")
+        (volume / "other").symlink_to(self.folder / "elsewhere")
+        resume = lambda *words: tool("dwg-check", "--quiet", "--resume", self.log, "--verify", "--follow", *words).stdout.decode().replace(f"{self.folder}/", "")
+        self.assertEqual(resume(volume).count("\tsound\t"), 4)
+        rotten, told = volume / "plans" / "b.dwg", os.stat(volume / "plans" / "b.dwg")
+        rotten.write_bytes(made.flipped(DATA["b.dwg"], 300, 1))
+        os.utime(rotten, ns=(told.st_atime_ns, told.st_mtime_ns))
+        for name, target in (("current", "plans"), ("another", self.folder / "elsewhere")):
+            (volume / name).symlink_to(target)
+        before = self.log.read_bytes()
+        for words in ([volume], [volume, volume / "plans"], [volume / "current", volume / "plans"]):
+            self.log.write_bytes(before)
+            found = resume(*words)
+            self.assertRegex(found, r"\nd/(plans|current)/b\.dwg\tchanged\t", words)
+            self.assertEqual(len(re.findall(r"\nd/(?:other|another)/a\.dwg\tsound\t", found)), int(words[0] == volume), words)
+        # What is left out is left out, by whatever name.
+        for words in (["--exclude", "plans"], ["--exclude", "b.*"], ["--ext", "dwt"]):
+            self.log.write_bytes(before)
+            self.assertNotIn("d/plans/b.dwg", resume(*words, *(["--exclude", "current"] if "--exclude" in words else []), volume), words)
+        self.log.write_bytes(before)
+        (volume / "plans" / "a.dwg").write_bytes(DATA["a.dwg"] + b"more")
+        self.assertIn("1 of its files have another content now, which it doesn't take; the first is d/plans/a.dwg", self.keep("--follow", "--add", volume)[0])
+
+    def test_a_new_link_is_no_new_place_of_what_is_gone(self) -> None:
+        """Of two copies one is gone, and a link leads to the other: to its file, to its folder, or by a word."""
+        for name, target in (("l.dwg", "plans/y.dwg"), ("current", "plans")):
+            volume = self.volume(f"{name}.d/plans", "a.dwg").parent
+            shutil.copy(volume / "plans" / "a.dwg", volume / "plans" / "y.dwg")
+            self.log.unlink(missing_ok=True)
+            self.assertEqual(self.keep("--follow", volume), [])
+            (volume / "plans" / "a.dwg").unlink()
+            (volume / name).symlink_to(target)
+            for words in (["--follow", volume], [volume / name]):
+                status, found = self.compare(*words)
+                self.assertEqual((status, found[f"{name}.d/plans/a.dwg"]), (68, "missing"), (words, found))
+            gone = f"1 of its files are gone, which it keeps (--forget has it forget them); the first is {name}.d/plans/a.dwg"
+            self.assertEqual(self.keep("--follow", volume), [gone])
+        # What a word leads to by a link is the file that LOG has.
+        self.log.unlink()
+        (self.folder / "way").symlink_to(volume)
+        shutil.copy(volume / "plans" / "y.dwg", volume / "plans" / "a.dwg")
+        self.assertEqual(self.keep(self.folder / "way"), [])
+        rotten, told = volume / "plans" / "y.dwg", os.stat(volume / "plans" / "y.dwg")
+        rotten.write_bytes(made.flipped(DATA["a.dwg"], 300, 1))
+        os.utime(rotten, ns=(told.st_atime_ns, told.st_mtime_ns))
+        words = [str(TOOLS / "dwg-check"), "--quiet", "--resume", str(self.log), "--verify", "plans"]
+        ran = subprocess.run(words, cwd=self.folder / "way", stdin=subprocess.DEVNULL, capture_output=True, check=False, env={**os.environ, "DWG": made.PROGRAM})
+        self.assertEqual([line.split(b"\t")[:2] for line in ran.stdout.splitlines()[1:]], [[b"plans/a.dwg", b"sound"], [b"plans/y.dwg", b"changed"]])
+
+    def test_deep_folders_that_have_a_file_are_looked_at_once(self) -> None:
+        top = self.folder / "d"
+        names = [str(top.joinpath(*["d"] * depth, "gone.dwg")) for depth in range(60)]
+        pathlib.Path(names[-1]).parent.mkdir(parents=True)
+        pathlib.Path(names[-1]).with_name("there").write_bytes(b"")
+        looked, real = [0], os.scandir
+        with unittest.mock.patch("os.scandir", lambda path: (looked.append(0), real(path))[1]):
+            self.assertEqual({*folders_with_files(names)}, {*names})
+        self.assertLessEqual(len(looked), 61)
 
     def test_what_is_not_taken_takes_the_place_of_nothing(self) -> None:
         """A folder that was moved to where a link led elsewhere, of which LOG takes no other content."""
