@@ -166,6 +166,7 @@ def has_right_status(case: Case) -> Iterator[str]:
 def says_truth(case: Case) -> Iterator[str]:
     """What a table says is the content of a file, unless LOG knows that by size and time."""
     for path, row in case.rows():
+        # (one that a link leads to elsewhere is read)
         key = path, row["bytes"], row["mtime_ns"]
         if row["verdict"] != "missing" and row["sha256"] != digest(path) and ("--verify" in case.ran.words or key not in case.before.known):
             yield f"{path} has another content than the table says"
@@ -197,7 +198,8 @@ def tells_lost(case: Case) -> Iterator[str]:
     yield from (f"{name} is there, and LOG has it no more" for name in lost if not is_gone(name) or not case.is_below(name))
     for name in case.forgotten():
         near = near_with_file(name)
-        if "--forget" not in case.ran.words or (near is None or not case.is_below(near)) and name not in case.tops:
+        is_spared = near is None or not case.is_below(near) and not case.is_below(os.path.realpath(near))
+        if "--forget" not in case.ran.words or is_spared and name not in case.tops:
             yield f"LOG was not to forget {name}"
 
 

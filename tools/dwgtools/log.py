@@ -235,6 +235,7 @@ class Names:
     def __init__(self) -> None:
         self._led: Dict[str, str] = {}
         self._leading: Dict[str, Set[str]] = {}
+        self._had: Dict[str, Tuple[Any, Any]] = {}
 
     def of(self, told: Dict[str, Any], maker: Optional[Maker]) -> List[str]:
         """The names of a line, which is one."""
@@ -249,6 +250,10 @@ class Names:
                 self._drop(link)
                 self._led[link] = name
                 self._leading.setdefault(name, set()).add(link)
+        # (thousands of links may lead to one file: to the others a line that tells nothing else of it is no news)
+        had, self._had[name] = self._had.get(name), (told["verdict"], told.get("sha256"))
+        if had == self._had[name]:
+            return [name, link] if isinstance(link, str) and link in self._leading.get(name, ()) else [name]
         return [name, *sorted(self._leading.get(name, ()))]
 
     def _drop(self, name: str) -> None:
@@ -413,6 +418,8 @@ class Log:
         self._before, self._names_of = Contents(), Names()
         self._names: Set[str] = set()
         self._places = Places(self._names)
+        # Where each file really was by its last line, where that isn't its name.
+        self._seats: Dict[str, str] = {}
         self._new: Dict[str, Row] = {}
         # Files of LOG that have another content than it had, and not by themselves.
         self.others: Set[str] = set()
@@ -457,9 +464,10 @@ class Log:
 
     def take_line(self, told: Dict[str, Any], maker: Optional[Maker], is_current: bool) -> None:
         """Takes a line that is no head, made by this program and these rules or by others; NoLine where it isn't as it should be."""
-        row = read_row(told)
+        row, place = read_row(told), told.get("place", told["absolute"])
         for name in self._names_of.of(told, maker):
             self._take(name, row, is_current)
+            self._seats[name] = place
 
     def _take(self, absolute: str, row: Row, is_current: bool) -> None:
         """Knows a file again; what it is found to be counts only where this program found it, by these rules."""
@@ -503,12 +511,19 @@ class Log:
         """What a content is found to be by this program."""
         return self._contents.get(digest)
 
+    def seat_of(self, path: str) -> Tuple[str, str]:
+        """The name under which LOG has a file, and where that really is."""
+        return self.name_of(path), absolute_name(path)
+
     def of_file(self, path: str) -> Optional[Row]:
-        """What this program found of a file that has the size and the time that it had."""
+        """What this program found of a file that has the size and the time that it had, in the same place."""
+        name, place = self.seat_of(path)
         try:
             told = os.stat(path)
-            key = (self.name_of(path), told.st_size, told.st_mtime_ns)
+            key = (name, told.st_size, told.st_mtime_ns)
         except (OSError, ValueError):
+            return None
+        if self._seats.get(name, name) != place:
             return None
         known = self._known[key] if key in self._current and key[0] not in self._unreadable else None
         # One that was changed is looked at again, as one that couldn't be read is: it may have been put right.
@@ -581,13 +596,13 @@ class Log:
             self._before.forget(name)
             self.add_line(name, Forgotten(name, "unreadable", GONE))
 
-    def kept(self, row: Row, before: str) -> Row:
-        """The line of a file that was looked at, kept in LOG: `changed` where its first content of this size and time was another. Of one whose name
-        before that was another nobody knows which file it is of."""
+    def kept(self, row: Row, before: Tuple[str, str]) -> Row:
+        """The line of a file that was looked at, kept in LOG: `changed` where its first content of this size and time was another. Of one whose name or
+        place before that was another nobody knows which file it is of."""
         if row.verdict == "failed" and not row.lasting:
             return row
-        name = self.name_of(row.path)
-        if name != before:
+        name, place = self.seat_of(row.path)
+        if (name, place) != before:
             return Row(row.path, "failed", LED_ELSEWHERE)
         if row.verdict == "unreadable" and row.detail in (GONE, NO_FOLDER) and self._before.has(name):
             # (LOG forgets nothing by itself)
@@ -601,6 +616,7 @@ class Log:
             self._withheld.append((name, row))
             return row
         is_there = key in self._current and old is not None and old.sha256 == row.sha256 and name not in self._unreadable and self._latest[name] == key
+        is_there = is_there and self._seats.get(name, name) == place
         if not is_there and not (row.verdict == "unreadable" and self._unreadable.get(name) == row.detail):
             is_there = self.add_line(name, row)
             if row.bytes is not None:
@@ -625,8 +641,11 @@ class Log:
         if not is_name(row.path) or len(row.path) > MOST_NAME:
             return False
         told: Dict[str, Any] = {**as_object(row if row.settled else replace(row, mtime_ns=None)), "absolute": absolute}
+        place = absolute_name(row.path)
         if isinstance(row, Forgotten):
             told["forgotten"] = True
+        elif place != absolute:
+            told["place"] = place
         line = line_of_log(told)
         if len(line) > LONGEST:
             self._tell(f"{self.name}: a line of more than {LONGEST} bytes isn't kept, that of {one_line(row.path)}")

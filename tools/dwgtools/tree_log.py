@@ -139,6 +139,7 @@ class TreeLog(Log):
     def _note(self, made: Made, source: str, content: Optional[str]) -> None:
         """Knows again what was written of a file of such a name and content, and under which names; or that it wasn't placed."""
         if made.foreign:
+            self._disown(made, source)
             return
         for (name, digest), stood in zip(names_of(made), made.stood or (None, None)):
             if made.placed is False:
@@ -149,6 +150,18 @@ class TreeLog(Log):
                 self._contents_of.setdefault((name, digest), set()).add(content or "")
         if made.is_whole:
             self._whole.add((made.output, made.sha256))
+
+    def _disown(self, made: Made, source: str) -> None:
+        """Knows that what stands there stands for another file too: it is no run's own any more."""
+        for name, digest in names_of(made):
+            known = self._outputs.get(name)
+            if known is not None and known.source != source and digest in known.own:
+                self._outputs[name] = replace(known, own=frozenset())
+
+    def _is_owned(self, made: Made, source: str) -> bool:
+        """Whether what stands there is a run's own, of another file."""
+        known = [(self._outputs.get(name), digest) for name, digest in names_of(made)]
+        return any(one is not None and one.source != source and digest in one.own for one, digest in known)
 
     def _take_output(self, name: str, digest: Optional[str], made: Made, source: str, stood: State) -> None:
         """Knows what was written last at a name, of this file and no other."""
@@ -243,9 +256,11 @@ class TreeLog(Log):
             self._keep(line, replace(line.made, placed=True))
 
     def stands_by_another(self, line: Line) -> None:
-        """Keeps what is known of a content, of which somebody else put there what would be written."""
-        made = None if line.made is None or line.made.notes is None else replace(line.made, foreign=True)
-        if not self._is_known(line) or made is not None and self.recovered_of(line.sha256) is None:
+        """Keeps what is known of a content, of which somebody else put there what would be written, or a run of another file."""
+        made = None if line.made is None else replace(line.made, foreign=True)
+        if made is not None and made.notes is None and not self._is_owned(made, line.source):
+            made = None
+        if not self._is_known(line) or made is not None and (self.recovered_of(line.sha256) is None or self._is_owned(made, line.source)):
             self._keep(line, made)
 
     def _keep(self, line: Line, made: Optional[Made]) -> None:

@@ -3,7 +3,6 @@
 from __future__ import annotations
 
 import os
-import re
 from typing import Dict, Optional, Tuple
 
 # No system finds a file by a name of more bytes.
@@ -73,8 +72,8 @@ def absolute_name(path: str) -> str:
         return path
 
 
-# How what a process has open is called.
-_OPENED = re.compile(r"/dev/(?:std(?:in|out|err)|fd/[0-9]+)|/proc/[^/]+/(?:task/[^/]+/)?fd/[0-9]+")
+# How the names of what a process has open begin.
+_OPENED = ("/dev/stdin", "/dev/stdout", "/dev/stderr", "/dev/fd/", "/proc/")
 
 
 def spelled_name(path: str) -> str:
@@ -85,4 +84,4 @@ def spelled_name(path: str) -> str:
     begin = os.sep if path.startswith(os.sep) else os.curdir
     cut = ups[-1] + 1 if ups else 0
     name = os.path.join(absolute_name(os.path.join(begin, *parts[:cut])), *parts[cut:])
-    return absolute_name(path) if _OPENED.fullmatch(name) else name
+    return absolute_name(path) if name.startswith(_OPENED) else name

@@ -15,6 +15,14 @@ from typing import Any, Dict, Iterator, List, Tuple
 
 from made import TOOLS, layout, made, program_that
 
+from dwgtools.log import Log
+from dwgtools.rows import Row
+
+
+def keep_row(log: Log, row: Row) -> Row:
+    """The line of a file that stays where it is while it is looked at, kept in LOG."""
+    return log.kept(row, log.seat_of(row.path))
+
 
 def double(word: int) -> float:
     """The double that a word is."""

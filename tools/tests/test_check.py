@@ -26,6 +26,7 @@ import unittest.mock
 import zipfile
 from typing import Any, Dict, Iterator, List, Optional, Tuple
 
+from common import keep_row
 import made
 import spelled
 import test_carry
@@ -1312,7 +1313,7 @@ class Logs(Base):
             told: List[str] = []
             log = Log(str(self.log), told.append)
             log.begin("0" * 64)
-            log.kept(Row("/a", "sound", bytes=1, mtime_ns=1))
+            keep_row(log, Row("/a", "sound", bytes=1, mtime_ns=1))
             self.assertGreater(self.log.stat().st_size, size)
             os.truncate(self.log, size)
             log.close()
@@ -1357,7 +1358,7 @@ class Logs(Base):
         log = Log(str(self.log), told.append)
         log.begin("0" * 64)
         for index in range(count):
-            log.kept(Row(f"/{index}", "sound", bytes=1, mtime_ns=1))
+            keep_row(log, Row(f"/{index}", "sound", bytes=1, mtime_ns=1))
         return log
 
     def test_log_that_is_overwritten_at_its_end_or_without_a_trace(self) -> None:
@@ -1380,8 +1381,8 @@ class Logs(Base):
         log = self.kept_log(told)
         row = Row("/a\n", "failed", "x" * LONGEST, bytes=1, mtime_ns=1)
         row.lasting = True
-        log.kept(row)
-        log.kept(Row("/b", "sound", bytes=1, mtime_ns=1))
+        keep_row(log, row)
+        keep_row(log, Row("/b", "sound", bytes=1, mtime_ns=1))
         log.close()
         said = f"{self.log}: a line of more than {LONGEST} bytes isn't kept, that of /a\\n"
         self.assertEqual((told, log.fault, len(self.lines())), ([said], "", 4))
@@ -1391,9 +1392,9 @@ class Logs(Base):
         log = self.kept_log(told)
         with open(self.log, "ab") as file:
             file.write(b"another\n")
-        log.kept(Row("/a", "sound", bytes=1, mtime_ns=1))
+        keep_row(log, Row("/a", "sound", bytes=1, mtime_ns=1))
         os.utime(self.log, ns=(1, 1))
-        log.kept(Row("/b", "sound", bytes=1, mtime_ns=1))
+        keep_row(log, Row("/b", "sound", bytes=1, mtime_ns=1))
         self.log.chmod(0o600)
         log.close()
         self.assertEqual((told, log.fault, len(self.log.read_bytes().splitlines())), ([], "", 6))
@@ -1403,8 +1404,8 @@ class Logs(Base):
         log = self.kept_log(told)
         with open(self.log, "ab") as file:
             file.write(b"half")
-        log.kept(Row("/a", "sound", bytes=1, mtime_ns=1))
-        log.kept(Row("/b", "sound", bytes=1, mtime_ns=1))
+        keep_row(log, Row("/a", "sound", bytes=1, mtime_ns=1))
+        keep_row(log, Row("/b", "sound", bytes=1, mtime_ns=1))
         log.close()
         lines = self.log.read_bytes().splitlines()
         self.assertEqual((told, log.fault, len(lines), lines[3]), ([], "", 6, b"half"))
@@ -1423,12 +1424,12 @@ class Logs(Base):
         with unittest.mock.patch("os.pread", counted):
             for index in range(300):
                 os.utime(self.log, ns=(index, index))
-                log.kept(Row(f"/more/{index}", "sound", bytes=1, mtime_ns=1))
+                keep_row(log, Row(f"/more/{index}", "sound", bytes=1, mtime_ns=1))
             size = self.log.stat().st_size
             self.assertLess(read[0], (MOST_LOOKS + 1) * size)
             # What isn't looked at meanwhile is at the end.
             self.overwrite(100)
-            log.kept(Row("/last", "sound", bytes=1, mtime_ns=1))
+            keep_row(log, Row("/last", "sound", bytes=1, mtime_ns=1))
             log.close()
         self.assertEqual((len(told), log.fault), (1, "cut"))
 

@@ -674,6 +674,8 @@ class Fixity(common.InFolder):
             ran = self.compare(word)
             self.assertEqual([row[1] for row in self.said(ran)], ["same"] * 4, word)
         self.assertEqual((self.compared(), self.compare(self.archive, real).stdout.count(b"\n")), (names, 5))
+        # (where they are now LOG has once)
+        self.assertEqual(self.keep().stderr, b"")
         before = self.log.read_bytes()
         self.assertEqual((self.keep().stderr, self.keep(real).stderr, self.log.read_bytes()), (b"", b"", before))
         self.change("b.dwg")

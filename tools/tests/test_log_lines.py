@@ -13,6 +13,7 @@ import unittest
 import unittest.mock
 from typing import Any, Dict, List, Optional, Tuple
 
+from common import keep_row
 import made
 import test_limits
 
@@ -73,7 +74,7 @@ class Lines(unittest.TestCase):
         """What LOG has after a run that keeps these lines."""
         log = self.open(program)
         for row in rows:
-            log.kept(row)
+            keep_row(log, row)
         log.close()
         return self.log.read_bytes()
 
@@ -82,7 +83,7 @@ class Lines(unittest.TestCase):
         row = lambda name, **more: Row(name, "sound", version="AC1015", findings=0, bytes=9, trailing=0, mtime_ns=5, sha256=SHA, **more)
         self.kept(row("/a"), Row("/b", "damaged", "objects 1 at 7: check", version="AC1015", bytes=8, mtime_ns=4, sha256="ef" * 32))
         log = self.open("12" * 32)
-        log.kept(row("/c"))
+        keep_row(log, row("/c"))
         log.add_line("/a", Forgotten("/a", "unreadable", GONE))
         log.close()
         return self.log.read_bytes()
@@ -196,7 +197,7 @@ class Lines(unittest.TestCase):
                 self.log.write_bytes(before)
                 with unittest.mock.patch("os.write", side_effect=OSError(number, why)):
                     log = self.open()
-                log.kept(Row("/a", "sound", version="AC1015", findings=0, bytes=9, trailing=0, mtime_ns=5, sha256=SHA))
+                keep_row(log, Row("/a", "sound", version="AC1015", findings=0, bytes=9, trailing=0, mtime_ns=5, sha256=SHA))
                 log.close()
                 said = [one for one in self.told if "damaged" not in one]
                 self.assertEqual((said, log.fault, self.log.read_bytes()), ([f"{self.log}: {why}; what is finished from now on isn't kept"], why, before))

@@ -122,7 +122,7 @@ class Names(common.InFolder):
         self.assertEqual((self.keep(self.folder / "d"), self.compare(self.folder / "d")[0]), ([], 0))
 
     def test_a_folder_that_leads_elsewhere_while_a_file_is_read(self) -> None:
-        """What is told by the name is of the file that was opened by it; a certificate would be of the other one."""
+        """Nobody knows then of which of both files the line is; what is compared is the file that was opened."""
         one, other = self.volume("one", "a.dwg"), self.volume("other", "b.dwg")
         os.rename(other / "b.dwg", other / "a.dwg")
         (self.folder / "current").symlink_to("one")
@@ -130,7 +130,7 @@ class Names(common.InFolder):
         switch = f"ln -sfn other {self.folder}/current.new && mv -T {self.folder}/current.new {self.folder}/current"
         switching = {command: program_that(self.folder, f"switching_{command}", [f'[ "$1" != {command} ] || {{ {switch}; }}', 'exec "$REAL" "$@"']) for command in ("audit", "accept")}
         for options, command, said, kept in (
-            (["--resume"], "audit", "sound\t", [(str(path), content)]),
+            (["--resume"], "audit", "failed\tits name led to another file while it was read", []),
             (["--fixity"], "audit", "failed\tchanged while it was checked", []),
             (["--fixity"], "accept", "same\t", [(str(path), content)]),
         ):
@@ -399,6 +399,20 @@ class Names(common.InFolder):
         self.log.write_bytes(before)
         (volume / "plans" / "a.dwg").write_bytes(DATA["a.dwg"] + b"more")
         self.assertIn("1 of its files have another content now, which it doesn't take; the first is d/plans/a.dwg", self.keep("--follow", "--add", volume)[0])
+
+    def test_a_link_that_leads_to_a_file_of_the_same_size_and_time(self) -> None:
+        """As to a copy on another disk: it is read, though LOG has such a file by this name."""
+        first, second = self.volume("first", "a.dwg"), self.volume("second", "a.dwg")
+        (second / "a.dwg").write_bytes(made.flipped(DATA["a.dwg"], 700, 1))
+        for path in (first / "a.dwg", second / "a.dwg"):
+            os.utime(path, ns=(10**18, 10**18))
+        for link, word, targets in ((self.folder / "current", self.folder / "current", (first, second)), (self.folder / "l.dwg", self.folder / "l.dwg", (first / "a.dwg", second / "a.dwg"))):
+            self.log.unlink(missing_ok=True)
+            for target, expected in ((targets[0], 0), (targets[0], 0), (targets[1], 1), (targets[1], 1)):
+                link.unlink(missing_ok=True)
+                link.symlink_to(target)
+                ran = tool("dwg-check", "--quiet", "--fixity", self.log, word)
+                self.assertEqual(ran.returncode, expected, (link, target, ran.stdout))
 
     def test_a_new_link_is_no_new_place_of_what_is_gone(self) -> None:
         """Of two copies one is gone, and a link leads to the other: to its file, to its folder, or by a word."""

@@ -1874,6 +1874,25 @@ class Replaced(Tree):
                     self.grown(0, *words)
                     self.assertEqual(out.read_bytes(), contents[1])
 
+    def test_what_stands_for_two_files_is_no_runs_own(self) -> None:
+        """Folders of one name, recovered into one OUT after each other, have the same file at first; then the first one's changes."""
+        for data, status in ((drawn(20, 1), 0), (flipped(drawn(20, 1), layout(drawn(20, 1)).frames[10].place + 5), 1)):
+            with self.subTest(status=status):
+                shutil.rmtree(self.out, ignore_errors=True)
+                folders = [self.folder / name / "plans" for name in ("first", "second")]
+                for folder in folders:
+                    folder.mkdir(parents=True, exist_ok=True)
+                    (folder / "x.dwg").write_bytes(data)
+                words = lambda folder: ("--quiet", "--whole", "copy", "--tree", self.out, folder)
+                self.assertEqual([tool("dwg-recover", *words(folder)).returncode for folder in folders], [status, status])
+                before = tree_of(self.out / "plans")
+                (folders[0] / "x.dwg").write_bytes(drawn(21, 1))
+                for _ in range(2):
+                    ran = tool("dwg-recover", *words(folders[0]))
+                    self.assertEqual((ran.returncode, tree_of(self.out / "plans")), (73, before), ran.stdout)
+                lines = self.logged()
+                self.assertEqual((tool("dwg-recover", *words(folders[1])).returncode, self.logged()), (status, lines))
+
     def test_a_copy_tells_the_time_of_which_log_is_not_sure(self) -> None:
         """As of a file of which the clock is ahead: LOG has no time of it, and the copy has."""
         source, out, ahead = self.plans / "x.dwg", self.out / "x.dwg", time.time_ns() // 10**9 * 10**9 + 3 * 3600 * 10**9
