@@ -177,12 +177,15 @@ class Places:
 
     def _led_to(self, last: str) -> Dict[str, str]:
         """The names of LOG with an end, by the places where they stand now."""
-        if self._ending is None:
-            self._ending = {}
+        ending = self._ending
+        if ending is None:
+            ending = {}
             for name in sorted(self._names, reverse=True):
-                self._ending.setdefault(os.path.basename(name), []).append(name)
+                ending.setdefault(os.path.basename(name), []).append(name)
+            # (several threads may ask, and none is to see a part of it)
+            self._ending = ending
         if last not in self._led:
-            self._led[last] = {placed(name): name for name in self._ending.get(last, ())}
+            self._led[last] = {placed(name): name for name in ending.get(last, ())}
         return self._led[last]
 
 
