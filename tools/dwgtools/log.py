@@ -243,7 +243,9 @@ class Names:
     def of(self, told: Dict[str, Any], maker: Optional[Maker]) -> List[str]:
         """The names of a line, which is one."""
         name, link = told["absolute"], told.get("link")
-        if maker is None or maker.rules is not None and maker.rules >= FIRST_SPELLED or told.get("forgotten") is True:
+        # (a link alone tells that a line is older, whatever became of its head)
+        is_older = link is not None or maker is not None and (maker.rules is None or maker.rules < FIRST_SPELLED)
+        if not is_older or told.get("forgotten") is True:
             self._drop(name)
             return [name]
         # (of what can't be read, or changed by itself, nobody knows where a link leads)
