@@ -195,6 +195,11 @@ def placed(name: str) -> str:
     return os.path.join(absolute_name(folder), last)
 
 
+def is_named(name: str, tops: Set[str]) -> bool:
+    """Whether a file is one of the words itself, as it is spelled or by another way to its folder."""
+    return name in tops or placed(name) in tops
+
+
 @dataclass
 class Forgotten(Row):
     """A file that LOG was told to have no more. One that was gone only, as older tools wrote, it still has."""
@@ -580,7 +585,7 @@ class Log:
         tops, names = names_of_words(words), {*self._before, *self._before.without}
         # (many files stand in one folder)
         folders = {folder for folder in {os.path.dirname(name) for name in names} if is_below(folder, tops)}
-        return sorted(name for name in names if (os.path.dirname(name) in folders or {name, placed(name)} & tops) and self._is_away(name))
+        return sorted(name for name in names if (os.path.dirname(name) in folders or is_named(name, tops)) and self._is_away(name))
 
     def below(self, words: Iterable[str]) -> Iterator[Tuple[str, str]]:
         """The names of files of LOG that stand below these words, in their order, each with the whole name of the word."""

@@ -347,6 +347,13 @@ class Names(common.InFolder):
             current.symlink_to(target)
             self.log.write_bytes(before)
             self.assertEqual(self.keep("--forget", "--null", "-", given=os.fsencode(current / "a.dwg") + b"\0"), [f"{1 + (target == first)} of its files are gone, and it has them no more; the first is current/a.dwg"], target)
+        # One that is named itself by another way to its folder is asked for too, though no file is left beside it.
+        self.log.unlink()
+        (first / "a.dwg").write_bytes(DATA["a.dwg"])
+        (first / "b.dwg").unlink()
+        self.assertEqual(self.keep(current), [])
+        (first / "a.dwg").unlink()
+        self.assertEqual(self.keep("--forget", first / "a.dwg")[:1], ["1 of its files are gone, and it has them no more; the first is current/a.dwg"])
 
     def test_nothing_is_forgotten_that_cannot_be_told(self) -> None:
         volume = self.volume("d", "a.dwg", "b.dwg", "c.dwg")
