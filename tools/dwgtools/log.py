@@ -102,8 +102,13 @@ def nearest_folders(folders: Iterable[str]) -> Dict[str, Optional[str]]:
 
 
 def names_of_words(words: Iterable[str]) -> Set[str]:
-    """The whole names of words, each as it is spelled and as it leads somewhere."""
-    return {name for word in filter(None, words) for name in (spelled_name(word), absolute_name(word))}
+    """The whole names of words, each as it is spelled and in its real folder; of a folder that too to which links lead. What a link to a file leads to
+    isn't named."""
+    found: Set[str] = set()
+    for word in filter(None, words):
+        spelled = spelled_name(word)
+        found |= {spelled, placed(spelled), *([absolute_name(word)] if os.path.isdir(word) else [])}
+    return found
 
 
 def is_below(folder: str, tops: Set[str]) -> bool:

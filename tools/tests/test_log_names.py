@@ -526,6 +526,25 @@ class Names(common.InFolder):
         self.assertEqual(self.keep("-", given=name), [gone("which it keeps (--forget has it forget them)")])
         self.assertEqual(self.keep("--forget", "-", given=name), [gone("and it has them no more")])
 
+    def test_a_link_that_is_named_names_no_other_file(self) -> None:
+        """What it leads to, where nothing is mounted, is neither forgotten nor moved for a copy of it."""
+        archive, other = self.volume("archive", "a.dwg"), self.volume("other", "b.dwg")
+        (archive / "l.dwg").symlink_to("../other/b.dwg")
+        self.assertEqual(self.keep(archive, other), [])
+        os.rename(other, self.folder / "away")
+        other.mkdir()
+        before = self.log.read_bytes()
+        for option in ([], ["--forget"]):
+            for copy in ([], [self.file("archive/copy.dwg", DATA["b.dwg"])]):
+                self.log.write_bytes(before)
+                self.assertEqual(self.keep(*option, archive / "a.dwg", archive / "l.dwg", *copy), [], (option, copy))
+        (archive / "copy.dwg").unlink()
+        self.log.write_bytes(before)
+        self.assertEqual(self.keep("--forget", archive / "l.dwg"), [])
+        self.assertEqual(self.compare(), (68, {"archive/a.dwg": "same", "other/b.dwg": "missing"}))
+        # By its own name it is forgotten.
+        self.assertEqual(self.keep("--forget", other / "b.dwg")[:1], ["1 of its files are gone, and it has them no more; the first is other/b.dwg"])
+
     def test_what_log_has_no_line_of_takes_the_place_of_nothing(self) -> None:
         volume = self.volume("d", "a.dwg", "b.dwg")
         self.keep(volume)
