@@ -63,18 +63,33 @@ def is_gone(path: str) -> bool:
         return False
 
 
+def leads_elsewhere(name: str, place: str) -> bool:
+    """Whether a name leads to another file than the one of a place."""
+    return os.path.realpath(name) != place and not is_gone(name)
+
+
 @dataclass
 class Kept:
-    """What LOG has: the content of each file by its whole name, and files without one; and by which names, sizes and times it takes a file as it was."""
+    """What LOG has: the content of each file by its whole name, and files without one; by which names, sizes and times it takes a file as it was; where
+    the file of each name was, and the names that its last line has together."""
 
     contents: Dict[str, str] = field(default_factory=dict)
     without: Set[str] = field(default_factory=set)
     known: Set[Tuple[str, int, int]] = field(default_factory=set)
+    places: Dict[str, str] = field(default_factory=dict)
+    together: Dict[str, List[str]] = field(default_factory=dict)
+    lines: Dict[str, str] = field(default_factory=dict)
     damaged: int = 0
 
     def take(self, told: Dict[str, Any]) -> None:
         """Takes a line."""
-        name = told["absolute"]
+        names = [told["absolute"], *told.get("also", [])]
+        for name in names:
+            self.places[name], self.together[name] = told.get("place", told["absolute"]), names
+            self._take(name, told)
+
+    def _take(self, name: str, told: Dict[str, Any]) -> None:
+        """Takes a line for a name."""
         if told.get("forgotten") is True:
             self.contents.pop(name, None)
             self.without.discard(name)
@@ -85,6 +100,15 @@ class Kept:
             self.without.add(name)
         if told["bytes"] is not None and told["mtime_ns"] is not None:
             self.known.add((name, told["bytes"], told["mtime_ns"]))
+
+    def drop_doubles(self) -> None:
+        """Leaves of the names of one file the first one that leads there still, or the first; `lines` has what all lines say."""
+        self.lines = {**self.contents}
+        for names in list(self.together.values()):
+            ones = [name for name in names if self.together[name] is names and name in self.contents and not leads_elsewhere(name, self.places[name])]
+            stands = sorted(ones, key=lambda name: os.path.realpath(name) != self.places[name])[:1]
+            for name in {*ones} - {*stands}:
+                del self.contents[name]
 
     def names(self) -> Set[str]:
         """All names of files."""
@@ -105,6 +129,7 @@ def read_log(path: str) -> Kept:
             kept.damaged += 1
         elif "log" not in json.loads(text):
             kept.take(json.loads(text))
+    kept.drop_doubles()
     return kept
 
 
@@ -130,6 +155,10 @@ class Case:
     def is_below(self, name: str) -> bool:
         """Whether the words name a file, or a folder that it stands in, as it is spelled or by another way to its folder."""
         return any(f"{one}/".startswith(top.rstrip("/") + "/") for one in (name, placed(name)) for top in self.tops)
+
+    def is_taken(self, name: str) -> bool:
+        """Whether the words name a file, or a folder of which it is taken by how it is called."""
+        return self.is_below(name) and (name.endswith(".dwg") or bool({name, placed(name)} & self.tops))
 
     def is_walked(self, name: str) -> bool:
         """Whether a file stands below a word by its name as it is spelled."""
@@ -213,7 +242,7 @@ def tells_others(case: Case) -> Iterator[str]:
 
 def tells_gone(case: Case) -> Iterator[str]:
     """Files of the words that LOG has and that are gone are counted."""
-    gone, told = sorted(name for name in case.before.contents if case.is_below(name) and is_gone(name)), case.ran.told("moved", "forgotten", "gone")
+    gone, told = sorted(name for name in case.before.contents if case.is_taken(name) and is_gone(name)), case.ran.told("moved", "forgotten", "gone")
     if "--fixity" in case.ran.words and not len(gone) <= told <= len(gone) + len(case.before.without):
         yield f"{gone} are gone, of which {told} are told"
 
@@ -231,6 +260,20 @@ def has_table(case: Case) -> Iterator[str]:
     for path, row in case.rows("changed", "failed"):
         if case.after.contents.get(path) != row["sha256"] and not (case.ran.told("left") and path in case.before.contents):
             yield f"LOG has another content of {path} than the table"
+
+
+def has_own_names(case: Case) -> Iterator[str]:
+    """LOG has each file of the table also by the name that it has below the folder of the words that it really stands in."""
+    if "--" not in case.ran.words:
+        return
+    words = case.ran.words[case.ran.words.index("--") + 1 :]
+    tops = [(os.path.realpath(os.path.join(case.ran.folder, word)), spelled(case.ran.folder, word)) for word in words]
+    for path, row in case.rows("changed", "failed"):
+        own = spelled(case.ran.folder, row["path"])
+        ways = [(top, word + placed(own)[len(top) :]) for top, word in tops if placed(own).startswith(f"{top}/")]
+        named = {name for top, name in ways if len(top) == max(len(other) for other, _ in ways)}
+        if case.before.contents.get(path, row["sha256"]) == row["sha256"] and (own if own in named else min(named, default=own)) not in case.after.places:
+            yield f"LOG doesn't have {path} as {sorted(named) or own}"
 
 
 def compares_truly(case: Case) -> Iterator[str]:
@@ -254,5 +297,5 @@ ALWAYS: Tuple[Callable[[Case], Iterator[str]], ...] = (keeps_files, has_right_st
 
 def faults_of(case: Case) -> List[str]:
     """All that isn't as it must be. What wasn't told by a run that was cut off the next one tells."""
-    more = (compares_truly,) if case.ran.is_compared else () if case.ran.cut.kind else (tells_others, tells_gone, looks_at_all, has_table)
+    more = (compares_truly,) if case.ran.is_compared else () if case.ran.cut.kind else (tells_others, tells_gone, looks_at_all, has_table, has_own_names)
     return [fault for rule in (*ALWAYS, *more) for fault in rule(case)]

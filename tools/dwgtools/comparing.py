@@ -69,6 +69,8 @@ class Kept(Contents):
             raise ToolError(f"{self.name} isn't there; without --verify it is made", Exit.NOTHING_FOUND) from None
         except OSError as fault:
             raise ToolError(f"{self.name}: {fault.strerror}", Exit.FAILURE) from None
+        for name in self._names_of.further.idle(self):
+            self.forget(name)
         if not self:
             raise ToolError(f"{self.name} has no file", Exit.NOTHING_FOUND)
         self._places = Places({*self, *self.without})

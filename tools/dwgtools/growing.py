@@ -290,6 +290,13 @@ class Growing(Checker):
         """Writes a whole drawing as it is, with its times, unless it stands."""
         assert line.sha256 is not None
         made = Made(self.one.name, line.sha256)
+        recovery = self.tree.last_of(self.one.name, self.source)
+        if recovery is not None and recovery.sha256 == line.sha256 and self.is_there(file, recovery):
+            # (somebody put in the place of a damaged drawing what was recovered of it)
+            self.tree.add(line)
+            self.written([Spot(self.out), Spot(self.notes)])
+            line.output, line.detail = self.out, "; ".join(filter(None, [line.detail, f"it was recovered, as {self.notes} tells"]))
+            return
         if self.digest_at(Spot(self.out), file) == line.sha256 and not self.has_notes_to_remove(file, line.sha256):
             self.stands(line, made)
             more = f"{self.notes} is there too, and no notes of it" if os.path.lexists(self.notes) else ""
@@ -435,6 +442,9 @@ class Growing(Checker):
                 raise Refused(f"{whole.path} is of another content, and that of the file changed though its size and time didn't; --force replaces it")
             if there != digest and self.tree.is_whole(name, there) and not made.is_whole and not self.grower.options.force:
                 raise Refused(f"{whole.path} is whole, and what is recovered isn't; --force replaces it")
+            last = self.tree.last_of(name, self.source)
+            if last is not None and last.sha256 == there and (made.kept or 0) < (last.kept or 0) and not made.is_whole and not self.grower.options.force:
+                raise Refused(f"{whole.path} has {last.kept} objects, and what is recovered now {made.kept}; --force replaces it")
             if os.path.samestat(state, self.tree.place):
                 raise Refused(f"{whole.path} is the log")
             whole.force, whole.judged = True, state

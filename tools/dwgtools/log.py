@@ -26,7 +26,7 @@ from .signals import uninterrupted
 from .statuses import Exit, ToolError
 from .streams import tell
 from .versions import LIMIT
-from .walking import is_called_drawing
+from .walking import Place, Walk, below, is_called_drawing, place_of
 from .whole_names import MOST_NAME, absolute_name, spelled_name
 
 Key = Tuple[str, int, int]
@@ -111,24 +111,33 @@ def names_of_words(words: Iterable[str]) -> Set[str]:
     return found
 
 
+def ways_below(folder: str, tops: Set[str]) -> List[Tuple[str, str]]:
+    """The names by which a folder is one of the words or below one, as it is spelled and where it leads, each with that of the word."""
+    ways = ((name, top_of(name, tops)) for name in (folder, absolute_name(folder)))
+    return [(name, top) for name, top in ways if top]
+
+
 def is_below(folder: str, tops: Set[str]) -> bool:
     """Whether a folder is one of the words or below one, as it is spelled or where it leads."""
-    return bool(top_of(folder, tops) or top_of(absolute_name(folder), tops))
+    return bool(ways_below(folder, tops))
 
 
-def inner_folders(folder: str) -> Optional[List[str]]:
-    """The folders in a folder, none of one that can't be read; None where it has a regular file, whatever that is called."""
+def inner_folders(folder: str, own: Collection[Place]) -> Optional[List[str]]:
+    """The folders in a folder, none of one that can't be read; None where it has a regular file, whatever that is called. What is the run's own is
+    neither."""
     inner = []
     with contextlib.suppress(OSError), os.scandir(folder) as entries:
         for entry in entries:
-            if entry.is_file(follow_symlinks=False):
+            is_file = entry.is_file(follow_symlinks=False)
+            if not is_file and not entry.is_dir(follow_symlinks=False) or place_of(entry.stat(follow_symlinks=False)) in own:
+                continue
+            if is_file:
                 return None
-            if entry.is_dir(follow_symlinks=False):
-                inner.append(entry.path)
+            inner.append(entry.path)
     return inner
 
 
-def has_file(folder: str, empty: Set[str], full: Set[str]) -> bool:
+def has_file(folder: str, empty: Set[str], full: Set[str], own: Collection[Place] = ()) -> bool:
     """Whether a folder has a regular file, in itself or deeper; those that are found to have none, or to have one, are known from then on. (Folders may
     stand in each other by thousands.)"""
     way: List[Tuple[str, List[str]]] = [("", [folder])]
@@ -139,7 +148,7 @@ def has_file(folder: str, empty: Set[str], full: Set[str]) -> bool:
             way.pop()
             continue
         one = left.pop()
-        inner = [] if one in empty else None if one in full else inner_folders(one)
+        inner = [] if one in empty else None if one in full else inner_folders(one, own)
         if inner is None:
             full |= {one, *(at for at, _ in way)}
             return True
@@ -147,12 +156,12 @@ def has_file(folder: str, empty: Set[str], full: Set[str]) -> bool:
     return False
 
 
-def folders_with_files(names: Collection[str]) -> Dict[str, str]:
+def folders_with_files(names: Collection[str], own: Collection[Place] = ()) -> Dict[str, str]:
     """Of each file that is gone the nearest folder that is there, where that has a file; one in which a volume isn't mounted has none."""
     empty: Set[str] = set()
     full: Set[str] = set()
     nearest = nearest_folders({os.path.dirname(name) for name in names})
-    have = {near for near in {*nearest.values()} if near is not None and has_file(near, empty, full)}
+    have = {near for near in {*nearest.values()} if near is not None and has_file(near, empty, full, own)}
     found = ((name, nearest[os.path.dirname(name)]) for name in names)
     return {name: near for name, near in found if near is not None and near in have}
 
@@ -242,16 +251,56 @@ class Contents(Dict[str, Row]):
 FIRST_SPELLED = 3
 
 
+class FurtherNames:
+    """The further names that words gave a file which LOG had by another way to its folder, and where the file of each name really was. A line of the file
+    is one of each. While all of them lead there one stands for the others; what one led to that leads elsewhere LOG has by the rest."""
+
+    def __init__(self) -> None:
+        # Where each file really was by its last line, and the names of that line.
+        self.seats: Dict[str, str] = {}
+        self._names: Dict[str, Tuple[str, ...]] = {}
+
+    def take(self, told: Dict[str, Any], names: List[str]) -> List[str]:
+        """All names of a line, of which some are known."""
+        also = told.get("also")
+        further = [one for one in also if isinstance(one, str) and is_name(one)] if isinstance(also, list) else []
+        names = [*dict.fromkeys([*names, *further])]
+        together = tuple(names) if further else ()
+        for name in names:
+            self.seats[name], self._names[name] = told.get("place", told["absolute"]), together
+        return names
+
+    def idle(self, contents: "Contents") -> Dict[str, str]:
+        """The names that stand for no file, each with the one that stands for its file."""
+        found: Dict[str, str] = {}
+        for names in {*self._names.values()}:
+            ones = [name for name in names if self._names[name] == names and name in contents and not leads_elsewhere(name, self.seats[name])]
+            # (one whose link is gone stands for nothing while another leads there)
+            stands = next((name for name in ones if absolute_name(name) == self.seats[name]), ones[0] if ones else "")
+            found.update({name: stands for name in ones if name != stands})
+        return found
+
+
+def leads_elsewhere(name: str, seat: str) -> bool:
+    """Whether a name leads to another file than the one that stands, or stood, in a place."""
+    return absolute_name(name) != seat and not is_away(name)
+
+
 class Names:
     """The names of the file of each line. Older tools had a file by the name to which links led: it stands for each link too, but for one to its folder."""
 
     def __init__(self) -> None:
+        self.further = FurtherNames()
         self._led: Dict[str, str] = {}
         self._leading: Dict[str, Set[str]] = {}
         self._had: Dict[str, Tuple[Any, Any]] = {}
 
     def of(self, told: Dict[str, Any], maker: Optional[Maker]) -> List[str]:
         """The names of a line, which is one."""
+        return self.further.take(told, self._of_older(told, maker))
+
+    def _of_older(self, told: Dict[str, Any], maker: Optional[Maker]) -> List[str]:
+        """The names of a line, without further ones."""
         name, link = told["absolute"], told.get("link")
         # (a link alone tells that a line is older, whatever became of its head)
         is_older = link is not None or maker is not None and (maker.rules is None or maker.rules < FIRST_SPELLED)
@@ -283,7 +332,7 @@ def content_of(row: Row) -> Tuple[Optional[str], Optional[int]]:
     return row.sha256, row.bytes
 
 
-def top_of(name: str, tops: Set[str]) -> str:
+def top_of(name: str, tops: Collection[str]) -> str:
     """Which of some whole names a name is, or is below, the nearest one; nothing where it is none."""
     while name not in tops:
         name, below = os.path.dirname(name), name
@@ -433,8 +482,10 @@ class Log:
         self._before, self._names_of = Contents(), Names()
         self._names: Set[str] = set()
         self._places = Places(self._names)
-        # Where each file really was by its last line, where that isn't its name.
-        self._seats: Dict[str, str] = {}
+        self._seats = self._names_of.further.seats
+        # The further names of files, by the names that stand for these; and the folders that words name, by where they are.
+        self._also: Dict[str, List[str]] = {}
+        self._tops: Dict[str, List[str]] = {}
         self._new: Dict[str, Row] = {}
         # Files of LOG that have another content than it had, and not by themselves.
         self.others: Set[str] = set()
@@ -457,13 +508,18 @@ class Log:
         """Whether LOG is named by a link."""
         return os.path.islink(self._path)
 
-    def begin(self, program: str) -> None:
+    def begin(self, program: str, words: Iterable[str] = ()) -> None:
         """Reads what LOG has, and writes a head where what comes is made by another program, or by other rules, than what is there, or nothing there
         has a sum. Where there is no room for that it is told, and nothing is added."""
         own, seen = Maker(program, RULES), Seen(self._file)
+        for word in filter(os.path.isdir, words):
+            self._tops.setdefault(absolute_name(word), []).append(spelled_name(word))
         self._file.seek(0)
         read = take_lines(seen.readline, lambda told, maker: self.take_line(told, maker, maker == own), self.name, self._tell)
         self._seen = seen
+        for name, stands in self._names_of.further.idle(self._before).items():
+            self._before.forget(name)
+            self._also.setdefault(stands, []).append(name)
         self._names = {*self._before, *self._before.without}
         self._places = Places(self._names)
         try:
@@ -479,10 +535,9 @@ class Log:
 
     def take_line(self, told: Dict[str, Any], maker: Optional[Maker], is_current: bool) -> None:
         """Takes a line that is no head, made by this program and these rules or by others; NoLine where it isn't as it should be."""
-        row, place = read_row(told), told.get("place", told["absolute"])
+        row = read_row(told)
         for name in self._names_of.of(told, maker):
             self._take(name, row, is_current)
-            self._seats[name] = place
 
     def _take(self, absolute: str, row: Row, is_current: bool) -> None:
         """Knows a file again; what it is found to be counts only where this program found it, by these rules."""
@@ -550,7 +605,7 @@ class Log:
         key = (name, row.bytes or 0, row.mtime_ns or 0)
         if self._sees_other(name, row):
             self._withheld.append((name, row))
-        elif self._latest.get(name) != key:
+        elif self._takes_further(name, row) or self._latest.get(name) != key:
             # (it was another meanwhile, which LOG would have of it)
             self.add_line(name, row)
             self._latest[name] = key
@@ -575,6 +630,21 @@ class Log:
         if name not in self._before and self._places.name_at(place) not in self._before:
             self._new[place] = row
 
+    def _takes_further(self, name: str, row: Row) -> bool:
+        """Whether LOG is to have a file also by the name that the words give it, where it has it by another way to its folder."""
+        own, names = self._own_name(spelled_name(row.path)), self._also.get(name, [])
+        if own in (name, *names) or row.sha256 is None or self._before.has(own):
+            return False
+        self._also[name] = [*names, own]
+        return True
+
+    def _own_name(self, spelled: str) -> str:
+        """The name that a file has by a folder that is named, without other links, where it stands below one; else as it is spelled."""
+        place = placed(spelled)
+        top = top_of(place, self._tops)
+        names = [os.path.join(word, below(place, top)) for word in self._tops.get(top, ())]
+        return spelled if spelled in names else min(names, default=spelled)
+
     def moved(self, gone: Iterable[str]) -> List[str]:
         """Those of the files that are gone, of each of which the content was found under a new name."""
         left, found = collections.Counter(map(content_of, self._new.values())), []
@@ -585,12 +655,18 @@ class Log:
                 found.append(name)
         return found
 
-    def gone(self, words: Iterable[str]) -> List[str]:
-        """The names of LOG at which no file is any more, which the words named or which stand below these, in their order."""
+    def gone(self, words: Iterable[str], walk: Walk) -> List[str]:
+        """The names of LOG at which no file is any more, which the words named or which stand below these, in their order. Of what the walk leaves out
+        nothing is known."""
         tops, names = names_of_words(words), {*self._before, *self._before.without}
         # (many files stand in one folder)
-        folders = {folder for folder in {os.path.dirname(name) for name in names} if is_below(folder, tops)}
-        return sorted(name for name in names if (os.path.dirname(name) in folders or is_named(name, tops)) and self._is_away(name))
+        ways = {folder: ways_below(folder, tops) for folder in {os.path.dirname(name) for name in names}}
+
+        def is_taken(name: str) -> bool:
+            folder, last = os.path.split(name)
+            return any(walk.would_take(os.path.join(at, last), top) for at, top in ways[folder]) or is_named(name, tops)
+
+        return sorted(name for name in names if is_taken(name) and self._is_away(name))
 
     def below(self, words: Iterable[str]) -> Iterator[Tuple[str, str]]:
         """The names of files of LOG that stand below these words, in their order, each with the whole name of the word."""
@@ -606,8 +682,8 @@ class Log:
         return is_gone(name) if name in self._before.without else is_away(name)
 
     def forget(self, names: Iterable[str]) -> None:
-        """Has LOG have files no more."""
-        for name in sorted(names):
+        """Has LOG have files no more, by no name."""
+        for name in sorted(one for name in names for one in (name, *self._also.get(name, ()))):
             self._before.forget(name)
             self.add_line(name, Forgotten(name, "unreadable", GONE))
 
@@ -632,6 +708,7 @@ class Log:
             return row
         is_there = key in self._current and old is not None and old.sha256 == row.sha256 and name not in self._unreadable and self._latest[name] == key
         is_there = is_there and self._seats.get(name, name) == place
+        is_there = not (changed is None and self._takes_further(name, row)) and is_there
         if not is_there and not (row.verdict == "unreadable" and self._unreadable.get(name) == row.detail):
             is_there = self.add_line(name, row)
             if row.bytes is not None:
@@ -659,8 +736,8 @@ class Log:
         place = absolute_name(row.path)
         if isinstance(row, Forgotten):
             told["forgotten"] = True
-        elif place != absolute:
-            told["place"] = place
+        else:
+            told.update({"place": place} if place != absolute else {}, **({"also": self._also[absolute]} if absolute in self._also else {}))
         line = line_of_log(told)
         if len(line) > LONGEST:
             self._tell(f"{self.name}: a line of more than {LONGEST} bytes isn't kept, that of {one_line(row.path)}")

@@ -14,7 +14,7 @@ from .statuses import Exit, ToolError
 HEAD = {"log": "dwg-check", "form": 1}
 MAKERS = ("program", "rules", "tools")
 
-# No line of LOG is longer: a path has 4,096 bytes, each six letters of JSON at the most, and three stand in it.
+# No line of LOG is longer: a path has 4,096 bytes, each six letters of JSON at the most, and four stand in it.
 LONGEST = 1 << 17
 # Where one is damaged so that it is longer than this, the file isn't read to its end.
 ENDLESS = 1 << 27

@@ -4,7 +4,7 @@ from __future__ import annotations
 
 import os
 from dataclasses import dataclass
-from typing import Iterator, Optional, Sequence, Set, Tuple
+from typing import Iterator, Optional, Sequence
 
 from .drawings import Drawing
 from .inputs import Input, bytes_of, input_of, refuse_changed, state_of
@@ -14,7 +14,7 @@ from .streams import input_name, is_own_pipe, is_standard
 from .temporary import temporary_told
 from .verdicts import open_regular
 from .versions import OURS
-from .walking import Named, Walk, walked, without_new, without_outputs
+from .walking import Named, Walk, Walked, walked, without_new, without_outputs
 
 
 @dataclass(frozen=True)
@@ -28,7 +28,7 @@ class Source(Named):
 def sources_of(words: Sequence[str], walk: Walk, new: Sequence[os.stat_result], out: Optional[os.stat_result] = None) -> Iterator[Source]:
     """What the words name, in their order, and of folders what the walk takes, without new files that the output or messages go to; `out` is the output
     that is there already. A named pipe is waited for where it holds up no other word."""
-    seen: Set[Tuple[int, int]] = set()
+    seen = Walked()
     for word in words:
         if is_standard(word) or not os.path.isdir(word):
             yield Source(word, can_wait=len(words) == 1 or is_standard(word) or is_own_pipe(word))

@@ -201,6 +201,11 @@ class TreeLog(Log):
         # (notes are moved aside, and perhaps put back)
         return known.last is None or there.st_ctime_ns <= known.at_ns
 
+    def last_of(self, name: str, source: str) -> Optional[Made]:
+        """What a run wrote last of a file under a name below OUT."""
+        known = self._outputs.get(name)
+        return known.last if known is not None and known.source == source else None
+
     def is_of(self, name: str, digest: str, content: Optional[str]) -> bool:
         """Whether a run wrote a file of such a name and content below OUT, of a source of this content."""
         return content is not None and content in self._contents_of.get((name, digest), ())

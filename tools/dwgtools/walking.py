@@ -11,7 +11,7 @@ import stat
 import sys
 import threading
 from dataclasses import dataclass
-from typing import IO, Deque, Iterable, Iterator, List, Optional, Sequence, Set, Tuple, Union
+from typing import IO, Deque, Dict, Iterable, Iterator, List, Optional, Sequence, Set, Tuple, Union
 
 from .patterns import compiled
 from .statuses import Exit, ToolError
@@ -55,7 +55,11 @@ class Walk:
 
     def leaves_out(self, path: str, top: str) -> bool:
         """Whether an entry is left out, by its name or by its path below the folder that the walk began in."""
-        return bool(self.left_out) and any(one.match(os.path.basename(path)) or one.match(below(path, top)) for one in self.left_out)
+        return bool(self.left_out) and (self.leaves_out_name(os.path.basename(path)) or any(one.match(below(path, top)) for one in self.left_out))
+
+    def leaves_out_name(self, name: str) -> bool:
+        """Whether an entry is left out in whatever folder it stands."""
+        return any(one.match(name) for one in self.left_out)
 
     def would_take(self, path: str, top: str) -> bool:
         """Whether a file is taken that stands in the folder that the walk began in, or deeper, if its folders are walked."""
@@ -111,20 +115,63 @@ def nothing_found(walk: Walk, what: str) -> str:
     return f"nothing was found to {what}" + ("" if walk.every else f"; of folders only {taken} is taken, and --all takes every file")
 
 
-@dataclass(frozen=True)
+# What a file or a folder is, whatever names it has.
+Place = Tuple[int, int]
+
+
+def place_of(told: os.stat_result) -> Place:
+    """By what a file or a folder is known again."""
+    return told.st_dev, told.st_ino
+
+
+@dataclass
 class Entry:
-    """What is to be looked at of a folder: whether it is a folder, and whether a link leads there."""
+    """What is to be looked at of a folder: whether it is a folder, whether a link leads there, or it is one itself, and in which folder it stands."""
 
     path: str
     is_folder: bool
-    is_linked: bool
+    is_linked: bool = False
+    is_link: bool = False
+    folder: Optional["Entry"] = None
+    place: Place = (0, 0)
 
 
-def walked(folder: str, walk: Walk, seen: Optional[Set[Tuple[int, int]]] = None) -> Iterator[Named]:
+class Walked:
+    """The real folders that were walked, and what patterns left out of them by the names by which that was done: by another name of the folder, or of
+    one that it stands in, it is looked at again."""
+
+    def __init__(self) -> None:
+        self._places: Set[Place] = set()
+        self._left: Dict[Place, Set[str]] = {}
+
+    def names_left(self, folder: Entry) -> Optional[Set[str]]:
+        """Which names of a folder are to be looked at; None where all are, as it is walked for the first time."""
+        folder.place = place_of(os.stat(folder.path))
+        if folder.place in self._places:
+            return self._left.get(folder.place, set())
+        self._places.add(folder.place)
+        return None
+
+    def leave(self, at: Optional[Entry], name: str) -> None:
+        """Takes note of a name of a folder that is left out, and of the folders that it stands in."""
+        while at is not None:
+            names, up, own = self._left.setdefault(at.place, set()), None if at.is_link else at.folder, os.path.basename(at.path)
+            if name in names and (up is None or own in self._left.get(up.place, ())):
+                return
+            names.add(name)
+            at, name = up, own
+
+    def take(self, at: Entry, name: str) -> None:
+        """Takes note of a file or a link in a folder that isn't left out any more."""
+        if at.place in self._left:
+            self._left[at.place].discard(name)
+
+
+def walked(folder: str, walk: Walk, seen: Optional[Walked] = None) -> Iterator[Named]:
     """The files of a folder and of those in it, in order of name. Symbolic links are passed; where they are followed each real folder is walked once,
-    by the first name that leads to it, and none that was seen before."""
-    seen = set() if seen is None else seen
-    left = [Entry(folder, True, False)]
+    by the first name that leads to it, and none that was seen before, but for what was left out by that."""
+    seen = Walked() if seen is None else seen
+    left = [Entry(folder, True)]
     while left:
         one = left.pop()
         if not one.is_folder:
@@ -132,21 +179,13 @@ def walked(folder: str, walk: Walk, seen: Optional[Set[Tuple[int, int]]] = None)
             continue
         listed: List[Entry] = []
         try:
-            if not walk.follow or is_first(one.path, seen):
-                for entry in entries_of(one, walk, folder):
+            names = seen.names_left(one) if walk.follow else None
+            if names is None or names:
+                for entry in entries_of(one, walk, folder, seen, names):
                     listed.append(entry)
         except OSError as fault:
             yield Named(one.path, str(fault.strerror))
         left += reversed(listed)
-
-
-def is_first(folder: str, seen: Set[Tuple[int, int]]) -> bool:
-    """Whether a real folder wasn't seen, which is seen now."""
-    told = os.stat(folder)
-    key = (told.st_dev, told.st_ino)
-    is_new = key not in seen
-    seen.add(key)
-    return is_new
 
 
 def is_folder(entry: "os.DirEntry[str]", follow: bool) -> Optional[bool]:
@@ -169,21 +208,29 @@ def is_link(entry: "os.DirEntry[str]") -> bool:
         return False
 
 
-def entries_of(folder: Entry, walk: Walk, top: str) -> Iterator[Entry]:
-    """What is to be looked at of a folder, in order of name. Where its list breaks off, as by a damaged disk, that fault comes after what was listed."""
+def entries_of(folder: Entry, walk: Walk, top: str, seen: Walked, names: Optional[Set[str]]) -> Iterator[Entry]:
+    """What is to be looked at of a folder, in order of name, of all names or some. Where its list breaks off, as by a damaged disk, that fault comes
+    after what was listed."""
     found: List["os.DirEntry[str]"] = []
     broken: Optional[OSError] = None
     with os.scandir(folder.path) as entries:
         try:
             for entry in entries:
-                found.append(entry)
+                if names is None or entry.name in names:
+                    found.append(entry)
         except OSError as fault:
             broken = fault
-    for entry in sorted((one for one in found if not walk.leaves_out(one.path, top)), key=lambda one: os.fsencode(one.name)):
-        is_one = is_folder(entry, walk.follow)
+    for entry in sorted(found, key=lambda one: os.fsencode(one.name)):
+        if walk.leaves_out(entry.path, top):
+            if walk.follow and not walk.leaves_out_name(entry.name):
+                seen.leave(folder, entry.name)
+            continue
+        is_one, is_own = is_folder(entry, walk.follow), is_link(entry)
+        if is_own or not is_one:
+            seen.take(folder, entry.name)
         # (what may be a folder is told, whatever it is called)
         if is_one or is_one is None or walk.takes(entry):
-            yield Entry(entry.path, bool(is_one), folder.is_linked or is_link(entry))
+            yield Entry(entry.path, bool(is_one), folder.is_linked or is_own, is_own, folder)
     if broken is not None:
         raise broken
 
@@ -215,7 +262,7 @@ def names_from(stream: IO[bytes], end: bytes) -> Iterator[str]:
 
 def all_named(words: Iterable[str], walk: Walk, end: bytes, given: Optional[List[str]]) -> Iterator[Named]:
     """The files that the words name, and into a list, where there is one, what each word is, or standard input in its place gives."""
-    seen: Set[Tuple[int, int]] = set()
+    seen = Walked()
     for word in words:
         for path in names_from(sys.stdin.buffer, end) if word == "-" else [word]:
             if given is not None:

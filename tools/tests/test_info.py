@@ -666,10 +666,10 @@ class Folders(common.InFolder):
         locked, entries_of = str(self.top / "a" / "locked"), walking.entries_of
         os.mkdir(locked)
 
-        def entries(folder: walking.Entry, walk: walking.Walk, top: str) -> Iterator[walking.Entry]:
+        def entries(folder: walking.Entry, *more: Any) -> Iterator[walking.Entry]:
             if folder.path == locked:
                 raise PermissionError(13, "Permission denied")
-            return entries_of(folder, walk, top)
+            return entries_of(folder, *more)
 
         # (root reads each)
         with unittest.mock.patch.object(walking, "entries_of", entries):

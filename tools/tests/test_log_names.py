@@ -33,6 +33,13 @@ made.needs_program()
 DATA = {"a.dwg": made.made(3), "b.dwg": made.made(4), "c.dwg": made.made(5)}
 
 
+def rot(path: pathlib.Path) -> None:
+    """Has a file have another content, and the size and the time that it had."""
+    told = os.stat(path)
+    path.write_bytes(made.flipped(path.read_bytes(), told.st_size - 1))
+    os.utime(path, ns=(told.st_atime_ns, told.st_mtime_ns))
+
+
 class Names(common.InFolder):
     """A folder with LOG beside it."""
 
@@ -544,6 +551,99 @@ class Names(common.InFolder):
         self.assertEqual(self.compare(), (68, {"archive/a.dwg": "same", "other/b.dwg": "missing"}))
         # By its own name it is forgotten.
         self.assertEqual(self.keep("--forget", other / "b.dwg")[:1], ["1 of its files are gone, and it has them no more; the first is other/b.dwg"])
+
+    def test_a_file_that_two_words_name_is_known_by_each(self) -> None:
+        """While both lead there one name stands for it, whatever befalls it; and one that leads elsewhere takes nothing from the other."""
+        first, second = self.volume("first", "a.dwg", "b.dwg"), self.volume("second", "a.dwg")
+        current = self.folder / "current"
+        current.symlink_to(first)
+        self.assertEqual([self.keep(word) for word in (current, first, current, first)], [[]] * 4)
+        def by_place() -> Tuple[int, Dict[str, str]]:
+            """What is found of the files, each once."""
+            status, found = self.compare()
+            places = {os.path.relpath(os.path.realpath(self.folder / name), self.folder): told for name, told in found.items()}
+            self.assertEqual(len(found), len(places))
+            return status, places
+
+        whole = {"first/a.dwg": "same", "first/b.dwg": "same"}
+        self.assertEqual(by_place(), (0, whole))
+        lines = self.log.read_bytes()
+        self.assertEqual(lines.count(b'"also": '), 2)
+        # Its content is another, or it is gone, by both names at once.
+        self.file("first/a.dwg", DATA["c.dwg"])
+        self.assertEqual(self.keep(current), ["1 of its files have another content now, which it takes; the first is current/a.dwg"])
+        self.assertEqual((self.keep(first), by_place()), ([], (0, whole)))
+        (first / "b.dwg").unlink()
+        self.assertEqual(self.keep("--forget", first), ["1 of its files are gone, and it has them no more; the first is current/b.dwg"])
+        self.assertEqual(by_place(), (0, {"first/a.dwg": "same"}))
+        # Whichever way is gone, the other stands for it.
+        current.unlink()
+        self.assertEqual((self.keep(first), by_place()), ([], (0, {"first/a.dwg": "same"})))
+        self.file("first/a.dwg", DATA["b.dwg"])
+        self.assertEqual(self.keep(first), ["1 of its files have another content now, which it takes; the first is first/a.dwg"])
+        current.symlink_to(first)
+        self.assertEqual((self.keep(current), by_place()), ([], (0, {"first/a.dwg": "same"})))
+        # What leads elsewhere has the content that is there, and what it led to the one that it had.
+        for change, told in ((lambda path: None, "same"), (rot, "changed of the same size and time"), (os.unlink, "missing")):
+            for kept in (True, False):
+                self.log.write_bytes(lines)
+                current.unlink()
+                current.symlink_to(first)
+                self.file("first/a.dwg", DATA["a.dwg"])
+                self.file("first/b.dwg", DATA["b.dwg"])
+                os.utime(first / "a.dwg", ns=(0, 0))
+                self.keep(current)
+                current.unlink()
+                current.symlink_to(second)
+                if kept:
+                    self.keep(current)
+                change(first / "a.dwg")
+                status, found = self.compare()
+                self.assertEqual((status, found["first/a.dwg"], found["current/a.dwg"]), (0 if told == "same" else 68, told, "same"), (told, kept))
+
+    def test_a_file_of_a_folder_to_which_a_link_led(self) -> None:
+        """Below one word, with --follow: it is walked by the link, and is known by its own name when that leads elsewhere."""
+        for link in ("0", "z"):
+            top = self.volume(link)
+            self.volume(f"{link}/first", "a.dwg")
+            self.volume(f"{link}/second", "b.dwg")
+            (top / link).symlink_to("first")
+            self.assertEqual([self.keep("--follow", top) for _ in range(2)], [[], []])
+            (top / link).unlink()
+            (top / link).symlink_to("second")
+            rot(top / "first" / "a.dwg")
+            self.assertEqual(self.compare("--follow", top)[1][f"{link}/first/a.dwg"], "changed of the same size and time")
+            self.assertEqual(self.keep("--follow", top)[1:], [])
+            self.assertEqual(self.compare()[1][f"{link}/first/a.dwg"], "changed of the same size and time")
+
+    def test_log_in_the_archive_tells_of_no_volume(self) -> None:
+        top = self.volume("archive")
+        volume = self.volume("archive/vol", "a.dwg")
+        self.log = top / "kept.log"
+        self.assertEqual(self.keep(top), [])
+        shutil.move(str(volume), self.folder / "away")
+        kept = "1 of its files are gone, which it keeps (since nothing can be read where they were); the first is archive/vol/a.dwg"
+        self.assertEqual(self.keep("--forget", top)[:1], [kept])
+        self.file("archive/kept.log.certificates.txt", b"")
+        self.assertEqual(self.keep("--forget", top)[:1], ["1 of its files are gone, and it has them no more; the first is archive/vol/a.dwg"])
+
+    def test_what_is_left_out_is_not_gone(self) -> None:
+        """Neither is it forgotten, nor was it moved; what is named is, whatever is left out."""
+        top = self.volume("media", "c.dwg")
+        volume = self.volume("media/usb", "a.dwg", "b.dwg")
+        self.assertEqual(self.keep(top), [])
+        before = self.log.read_bytes()
+        shutil.move(str(volume), self.folder / "away")
+        gone = "2 of its files are gone, which it keeps (--forget has it forget them); the first is media/usb/a.dwg"
+        self.assertEqual(self.keep(top), [gone])
+        for words in (["--exclude", "usb"], ["--exclude", "usb/*"], ["--ext", "bak"]):
+            self.assertEqual(self.keep("--forget", *words, top), ["dwg-check: nothing was found to check; of folders only *.bak is taken, and --all takes every file"] * ("bak" in words), words)
+            self.file("media/copy.dwg", DATA["a.dwg"])
+            self.assertEqual(self.keep(*words, top, top / "copy.dwg"), [], words)
+            self.assertEqual(self.compare()[1]["media/usb/a.dwg"], "missing")
+            (top / "copy.dwg").unlink()
+            self.log.write_bytes(before)
+        self.assertEqual(self.keep("--forget", "--exclude", "usb", top, volume / "b.dwg")[:1], ["1 of its files are gone, and it has them no more; the first is media/usb/b.dwg"])
 
     def test_what_log_has_no_line_of_takes_the_place_of_nothing(self) -> None:
         volume = self.volume("d", "a.dwg", "b.dwg")

@@ -957,10 +957,20 @@ class Resumed(Tree):
         self.grown(1, "--force", *words)
         answer = dwg("recover", given=source.read_bytes())
         self.assertEqual((place.read_bytes(), Path(f"{place}.notes").read_bytes()), (answer.stdout, answer.stderr))
-        # What has losses itself is replaced.
-        source.write_bytes(older(data))
-        self.assertEqual([row["outcome"] for row in self.grown(1, *words) if row["path"] == str(source)], ["recovered"])
-        self.assertEqual(place.read_bytes(), dwg("recover", given=source.read_bytes()).stdout)
+        # What has losses itself is replaced, but by nothing of fewer objects.
+        source.write_bytes(older(drawn(8, 8)))
+        (row,) = [row for row in self.grown(1, *words) if row["path"] == str(source)]
+        self.assertEqual(row["outcome"], "recovered")
+        had, best = row["kept"], (place.read_bytes(), Path(f"{place}.notes").read_bytes())
+        self.assertEqual(best[0], dwg("recover", given=source.read_bytes()).stdout)
+        source_data = older(data)
+        source.write_bytes(source_data)
+        for _ in range(2):
+            (row,) = [row for row in self.grown(73, *words) if row["path"] == str(source)]
+            self.assertEqual((row["outcome"], place.read_bytes(), Path(f"{place}.notes").read_bytes()), ("refused", *best))
+            self.assertRegex(row["detail"], rf"; {place} has {had} objects, and what is recovered now \d+; --force replaces it$")
+        self.grown(1, "--force", *words)
+        self.assertEqual(place.read_bytes(), dwg("recover", given=source_data).stdout)
 
     def test_a_copy_gives_way_to_no_recovery_without_a_loss_in_the_notes(self) -> None:
         """A page of the map whose entries end unspelled, and header variables that were found elsewhere, are in no note."""
@@ -1976,6 +1986,24 @@ class Replaced(Tree):
         self.assertEqual(row["detail"], f"{notes} is there too, and no notes of it")
         source.write_bytes(drawn(21, 1))
         self.assertEqual([row["outcome"] for row in self.grown(73, "--whole", "copy", source)], ["refused"])
+
+    def test_notes_of_a_recovery_that_took_the_place_of_what_was_damaged(self) -> None:
+        """They stay beside it until a run writes something else there."""
+        source, out, notes = self.plans / "x.dwg", self.out / "x.dwg", self.out / "x.dwg.notes"
+        data = drawn(20, 1)
+        source.write_bytes(flipped(data, layout(data).frames[3].place + 3))
+        self.grown(1, "--whole", "copy", source)
+        told = out.read_bytes(), notes.read_bytes()
+        source.write_bytes(told[0])
+        for words in ([], [], ["--force"], ["--whole", "skip"]):
+            (row,) = self.grown(0, "--whole", "copy", *words, source)
+            self.assertEqual((out.read_bytes(), notes.read_bytes()), told, words)
+            if "skip" not in words:
+                self.assertIn(row["outcome"], ("sound", "unsound"))
+                self.assertEqual((row["output"], row["detail"].split("; ")[-1]), (str(out), f"it was recovered, as {notes} tells"))
+        source.write_bytes(data)
+        self.grown(0, "--whole", "copy", source)
+        self.assertEqual((out.read_bytes(), notes.exists()), (data, False))
 
     def test_names_that_a_file_system_may_take_for_one(self) -> None:
         """One that heeds no capital letters, and numbers its files by their names, shows by its folders alone what stands there."""

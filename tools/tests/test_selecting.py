@@ -85,6 +85,35 @@ class Walks(common.InFolder):
         ran = tool("dwg-check", "--follow", "--quiet", top, top / "link", elsewhere)
         self.assertEqual([line.split("\t")[0] for line in ran.stdout.decode().splitlines()[1:]], [str(top / name) for name in expected])
 
+    def test_what_is_left_out_by_one_name_is_found_by_another(self) -> None:
+        """Nothing is found twice, and links in a ring end."""
+        top = self.folder / "d"
+        for name in ("snap/x.dwg", "snap/y.dwg", "snap/old/z.dwg", "snap/old/deep/w.dwg"):
+            (top / name).parent.mkdir(parents=True, exist_ok=True)
+            self.file(f"d/{name}", b"x")
+        (top / "current").symlink_to("snap")
+        (top / "snap" / "old" / "ring").symlink_to("../..")
+        whole = ["snap/old/deep/w.dwg", "snap/old/z.dwg", "snap/x.dwg", "snap/y.dwg"]
+
+        def found(*words: str, more: str = "") -> List[str]:
+            ran = tool("dwg-check", "--quiet", "--follow", "--print0", *(one for word in words for one in ("--exclude", word)), top, *([top / more] if more else []))
+            self.assertNotIn(b"Traceback", ran.stderr)
+            return [os.path.relpath(os.fsdecode(name), top) for name in ran.stdout.split(b"\0")[:-1]]
+
+        for words, expected in (
+            (("current",), whole),
+            (("current/*",), whole),
+            (("current/old", "x.dwg"), ["current/y.dwg", *whole[:2]]),
+            (("current/old/z.dwg",), ["current/old/deep/w.dwg", "current/x.dwg", "current/y.dwg", "snap/old/z.dwg"]),
+            (("*/z.dwg", "current/old/deep/*"), ["current/x.dwg", "current/y.dwg", "snap/old/deep/w.dwg"]),
+            (("current/*", "snap/*"), []),
+        ):
+            self.assertEqual(sorted(found(*words)), sorted(expected), words)
+        self.assertEqual(found("current/x.dwg", "*/ring", "snap/*")[:2], ["current/old/deep/w.dwg", "current/old/z.dwg"])
+        # By a word of its own too.
+        self.assertEqual(sorted(found("current", "snap/*", "*ring", more="snap")), whole)
+        self.assertEqual(sorted(found("current", "snap/old/deep", "*ring", more="snap/old")), whole)
+
     def test_a_link_that_may_lead_to_a_folder_is_told(self) -> None:
         """As one to a volume that isn't mounted, or to where nobody may look."""
         top = self.folder / "plans"

@@ -11,6 +11,7 @@ from typing import Any, List
 import made
 
 from dwgtools import comparing
+from dwgtools.walking import Walk
 
 made.needs_program()
 ARCHIVE = made.module(made.TOP / "bench" / "worlds" / "archive", "archive")
@@ -49,7 +50,7 @@ class Worlds(unittest.TestCase):
 
     def test_what_is_forgotten_and_not_told_is_seen(self) -> None:
         def follow_files(log: Any, run: Any) -> None:
-            log.forget(log.gone(run.options.files))
+            log.forget(log.gone(run.options.files, Walk()))
 
         self.expect_seen(TOOL, "follow_files", follow_files, "no more, of which 0 are told")
 
