@@ -247,6 +247,9 @@ class Contents(Dict[str, Row]):
         self.without.pop(absolute, None)
 
 
+# How many further names a line has at the most.
+MOST_FURTHER = 8
+
 # From these rules on lines have names as they are spelled.
 FIRST_SPELLED = 3
 
@@ -632,11 +635,15 @@ class Log:
 
     def _takes_further(self, name: str, row: Row) -> bool:
         """Whether LOG is to have a file also by the name that the words give it, where it has it by another way to its folder."""
-        own, names = self._own_name(spelled_name(row.path)), self._also.get(name, [])
+        own, names = self._own_name(spelled_name(row.path)), self._also.setdefault(name, [])
         if own in (name, *names) or row.sha256 is None or self._before.has(own):
             return False
-        self._also[name] = [*names, own]
-        return True
+        if len(names) < MOST_FURTHER:
+            names.append(own)
+            return True
+        # (where it has more names a line has one, and each stands for itself)
+        self.add_line(own, row)
+        return False
 
     def _own_name(self, spelled: str) -> str:
         """The name that a file has by a folder that is named, without other links, where it stands below one; else as it is spelled."""
@@ -737,7 +744,9 @@ class Log:
         if isinstance(row, Forgotten):
             told["forgotten"] = True
         else:
-            told.update({"place": place} if place != absolute else {}, **({"also": self._also[absolute]} if absolute in self._also else {}))
+            # (what a name led to when the run began is another file than what it leads to now)
+            also = [one for one in self._also.get(absolute, ()) if place in (self._seats.get(absolute), absolute_name(one))]
+            told.update({name: value for name, value in (("place", place), ("also", also)) if value not in (absolute, [])})
         line = line_of_log(told)
         if len(line) > LONGEST:
             self._tell(f"{self.name}: a line of more than {LONGEST} bytes isn't kept, that of {one_line(row.path)}")

@@ -601,6 +601,37 @@ class Names(common.InFolder):
                 status, found = self.compare()
                 self.assertEqual((status, found["first/a.dwg"], found["current/a.dwg"]), (0 if told == "same" else 68, told, "same"), (told, kept))
 
+    def test_a_name_that_leads_elsewhere_during_a_run(self) -> None:
+        """What the other name of the file has stays what it had."""
+        first, second, current = self.volume("first", "a.dwg"), self.volume("second", "b.dwg"), self.folder / "current"
+        os.rename(second / "b.dwg", second / "a.dwg")
+        current.symlink_to(first)
+        self.assertEqual([self.keep(word) for word in (current, first)], [[], []])
+        turn = f"ln -sfn second {current}.new && mv -T {current}.new {current}"
+        program = program_that(self.folder, "turning", [f'[ "$1" != audit ] || {{ {turn}; }}', 'exec "$REAL" "$@"'])
+        said = self.keep("--jobs", "1", "--program", program, self.file("0.dwg", DATA["c.dwg"]), current)
+        self.assertEqual((said, os.readlink(current)), (["1 of its files have another content now, which it takes; the first is current/a.dwg"], "second"))
+        self.assertEqual(self.compare(), (0, {"0.dwg": "same", "current/a.dwg": "same", "first/a.dwg": "same"}))
+        rot(first / "a.dwg")
+        self.assertEqual(self.compare()[1]["first/a.dwg"], "changed of the same size and time")
+
+    def test_a_file_of_many_names(self) -> None:
+        """A line has some of them, and the others stand for themselves."""
+        first, second = self.volume("first", "a.dwg"), self.volume("second", "a.dwg")
+        links = [self.folder / f"link{index:02}" for index in range(12)]
+        for link in links:
+            link.symlink_to(first)
+            self.assertEqual(self.keep(link), [])
+        before = self.log.read_bytes()
+        self.assertEqual((self.keep(*links), self.log.read_bytes()), ([], before))
+        self.assertLessEqual(max(len(line.get("also", [])) for line in made.read_log(self.log)), 8)
+        for link in links:
+            link.unlink()
+            link.symlink_to(second)
+        shutil.copystat(first / "a.dwg", second / "a.dwg")
+        rot(second / "a.dwg")
+        self.assertEqual(self.compare(), (68, {link.name + "/a.dwg": "changed of the same size and time" for link in links}))
+
     def test_a_file_of_a_folder_to_which_a_link_led(self) -> None:
         """Below one word, with --follow: it is walked by the link, and is known by its own name when that leads elsewhere."""
         for link in ("0", "z"):
