@@ -258,7 +258,7 @@ def looks_at_all(case: Case) -> Iterator[str]:
 def has_table(case: Case) -> Iterator[str]:
     """LOG has what the table says, by the name that it says it of."""
     for path, row in case.rows("changed", "failed"):
-        if case.after.contents.get(path) != row["sha256"] and not (case.ran.told("left") and path in case.before.contents):
+        if case.after.lines.get(path) != row["sha256"] and not (case.ran.told("left") and path in case.before.contents):
             yield f"LOG has another content of {path} than the table"
 
 

@@ -69,6 +69,12 @@ class Certificates:
             self._stood.add(row.sha256)
         return is_there
 
+    def are_there(self) -> bool:
+        """Whether the folder has any certificate."""
+        with contextlib.suppress(OSError), os.scandir(self.folder) as entries:
+            return any(entry.name.endswith(ENDING) and entry.is_file(follow_symlinks=False) for entry in entries)
+        return False
+
     def has_file(self, path: str) -> bool:
         """Whether a file is one of the certificates, or what a killed run has left of one."""
         above, name = os.path.split(path)

@@ -87,7 +87,10 @@ class Standing(common.InFolder):
             for _ in range(2):
                 ran = self.run_with("--quiet", self.archive)
                 self.assertEqual((ran.returncode, ran.stderr.count(b"\n"), b"cert is no regular file\n" in ran.stderr), (70, 1, True), ran.stderr)
+            shutil.rmtree(self.certificates)
+            self.certificates.mkdir()
             self.log.unlink()
+            stand()
             path.rmdir() if path.is_dir() else path.unlink()
         # One that another run has written meanwhile is left, and isn't this one.
         told: List[str] = []
@@ -135,7 +138,8 @@ class Standing(common.InFolder):
                     ran = self.run_with("--quiet", "--jobs", 1, "--program", program, self.archive)
                     first = min((names[index] for index in gone), default="")
                     what = "2 certificates were removed meanwhile, the first is" if len(gone) > 1 else "a certificate was removed meanwhile:"
-                    said = f"dwg-check: {self.certificates}: {what} {first}\n" if gone else ""
+                    anew = f"dwg-check: {self.log} has nothing, though {self.certificates} has certificates: what LOG had is lost, and all is taken as it is\n"
+                    said = (anew if state == "found by their contents" else "") + (f"dwg-check: {self.certificates}: {what} {first}\n" if gone else "")
                     self.assertEqual((ran.returncode, ran.stderr.decode(), ran.stdout.count(b"\tsound\t")), (70 if gone else 0, said, 3))
                     # The next run makes them again.
                     self.assertEqual((self.run_with("--quiet", self.archive).returncode, {*names} - {*os.listdir(self.certificates)}), (0, set()))

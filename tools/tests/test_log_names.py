@@ -61,6 +61,11 @@ class Names(common.InFolder):
         ran = tool("dwg-check", "--quiet", "--fixity", self.log, *words, given=given, **more)
         return ran.stderr.decode().replace(f"dwg-check: {self.log}: ", "").replace(f"{self.folder}/", "").splitlines()
 
+    def begin_anew(self) -> None:
+        """Has LOG have nothing, and no certificates."""
+        self.log.unlink(missing_ok=True)
+        shutil.rmtree(f"{self.log}.certificates", ignore_errors=True)
+
     def compare(self, *words: object) -> Tuple[int, Dict[str, str]]:
         """The status of a run that compares, and what each file is found to be."""
         ran = tool("dwg-check", "--quiet", "--fixity", self.log, "--verify", *words)
@@ -151,7 +156,7 @@ class Names(common.InFolder):
             self.assertEqual(os.readlink(self.folder / "current"), "other")
             self.assertEqual([(line["absolute"], line["sha256"]) for line in made.read_log(self.log)[1:]], kept, words)
             if command == "audit":
-                self.log.unlink()
+                self.begin_anew()
 
     def test_a_volume_that_is_away_is_not_forgotten_for_a_copy_elsewhere(self) -> None:
         first, copy = self.volume("first", "a.dwg", "b.dwg"), self.volume("copy", "a.dwg", "b.dwg")
@@ -166,7 +171,7 @@ class Names(common.InFolder):
         (first / "a.dwg").write_bytes(made.flipped(DATA["a.dwg"], 300, 1))
         self.assertEqual(self.compare()[1]["first/a.dwg"][:7], "changed")
         # Where both are named it is told that one took the place of the other.
-        self.log.unlink()
+        self.begin_anew()
         self.assertEqual((self.keep(copy), self.keep("--forget", first)), ([], []))
         os.rename(copy, self.folder / "moved")
         self.assertEqual(self.keep(copy, self.folder / "moved"), ["2 of its files have other names now; the first is copy/a.dwg"])
@@ -221,7 +226,7 @@ class Names(common.InFolder):
         self.assertEqual(self.keep("--forget", self.folder / "current"), [gone("and it has them no more")])
         self.assertEqual(self.compare(), (0, {"current/a.dwg": "same"}))
         self.assertEqual(self.compare(first), (0, {"current/a.dwg": "same", "first/a.dwg": "new sound", "first/b.dwg": "new sound"}))
-        self.log.unlink()
+        self.begin_anew()
         archive = self.volume("archive", "c.dwg")
         (archive / "link").symlink_to(second)
         self.assertEqual(self.keep("--follow", archive), [])
@@ -355,7 +360,7 @@ class Names(common.InFolder):
             self.log.write_bytes(before)
             self.assertEqual(self.keep("--forget", "--null", "-", given=os.fsencode(current / "a.dwg") + b"\0"), [f"{1 + (target == first)} of its files are gone, and it has them no more; the first is current/a.dwg"], target)
         # One that is named itself by another way to its folder is asked for too, though no file is left beside it.
-        self.log.unlink()
+        self.begin_anew()
         (first / "a.dwg").write_bytes(DATA["a.dwg"])
         (first / "b.dwg").unlink()
         self.assertEqual(self.keep(current), [])
@@ -387,6 +392,13 @@ class Names(common.InFolder):
             states = {name: said.split()[0] for name, said in self.compare(volume)[1].items()}
             self.assertEqual(states, {"d/a.dwg": "changed", "d/c.dwg": "same", "d/new.dwg": "same"})
         self.assertEqual(tool("dwg-check", "--add", "--resume", self.log, volume).returncode, 64)
+        # One that changed by itself, which another program looks at again.
+        self.assertEqual(self.keep(volume), [other.replace("doesn't take", "takes")])
+        rot(volume / "c.dwg")
+        program = program_that(self.folder, "another", ['exec "$REAL" "$@"'])
+        for _ in range(2):
+            ran = tool("dwg-check", "--quiet", "--add", "--fixity", self.log, "--program", program, volume)
+            self.assertEqual((ran.returncode, ran.stdout.count(b"\tchanged\t")), (68, 1))
 
     def test_a_new_link_to_a_folder_keeps_nothing_from_being_looked_at(self) -> None:
         """The folder is walked by the first name that leads to it, and what LOG has by others is looked at by these."""
@@ -433,7 +445,7 @@ class Names(common.InFolder):
         for name, target in (("l.dwg", "plans/y.dwg"), ("current", "plans")):
             volume = self.volume(f"{name}.d/plans", "a.dwg").parent
             shutil.copy(volume / "plans" / "a.dwg", volume / "plans" / "y.dwg")
-            self.log.unlink(missing_ok=True)
+            self.begin_anew()
             self.assertEqual(self.keep("--follow", volume), [])
             (volume / "plans" / "a.dwg").unlink()
             (volume / name).symlink_to(target)
@@ -443,7 +455,7 @@ class Names(common.InFolder):
             gone = f"1 of its files are gone, which it keeps (--forget has it forget them); the first is {name}.d/plans/a.dwg"
             self.assertEqual(self.keep("--follow", volume), [gone])
         # What a word leads to by a link is the file that LOG has.
-        self.log.unlink()
+        self.begin_anew()
         (self.folder / "way").symlink_to(volume)
         shutil.copy(volume / "plans" / "y.dwg", volume / "plans" / "a.dwg")
         self.assertEqual(self.keep(self.folder / "way"), [])
@@ -778,6 +790,16 @@ class Names(common.InFolder):
             path.write_bytes(data)
             os.utime(path, ns=(at, at))
             self.assertEqual((self.keep(volume), self.compare()[0]), (said, 0), at)
+
+    def test_a_log_that_is_lost_is_told(self) -> None:
+        """All is new to what is begun anew beside the certificates of another."""
+        volume = self.volume("d", "a.dwg")
+        self.assertEqual(self.keep(volume), [])
+        told = [f"dwg-check: {self.log} has nothing, though log.certificates has certificates: what LOG had is lost, and all is taken as it is".replace(f"{self.folder}/", "")]
+        for lose in (self.log.unlink, lambda: self.log.write_bytes(b"")):
+            lose()
+            self.assertEqual([line.replace(f"{self.folder}/", "") for line in self.keep(volume)], told)
+            self.assertEqual(self.keep(volume), [])
 
     def test_no_word_names_no_folder(self) -> None:
         volume = self.volume("d", "a.dwg", "b.dwg")
