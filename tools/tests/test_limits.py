@@ -160,8 +160,9 @@ class Time(Checked):
             said = self.resumed(lines="verdicts.MOST_SECONDS, verdicts.MOST_TAKEN = 0.3, 10")
             self.assertEqual(said, [["failed", "`recover` takes more than 0.3 seconds"]], line)
             session = int(self.count.read_text())
-            left = [one.number for one in processes.all_processes() if one.session == session and is_running(one.number)]
-            self.assertEqual(left, [], line)
+            is_left = lambda: any(one.session == session and is_running(one.number) for one in processes.all_processes())
+            # (what is killed ends as soon as it has a processor)
+            self.assertTrue(any(not is_left() or time.sleep(0.1) for _ in range(50)), line)
             self.count.unlink()
 
     def test_what_failed_otherwise_is_tried_again(self) -> None:
