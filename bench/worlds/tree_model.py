@@ -94,6 +94,11 @@ def base_of(name: str) -> str:
     return name[: -len(NOTES)] if name.endswith(NOTES) else name
 
 
+def kept_by(notes: bytes) -> int:
+    """How many objects a recovery kept, as the end of its notes says."""
+    return int(notes.split()[-1])
+
+
 class Model:
     """A folder with sources and OUT in it, and what is known of what stands below OUT."""
 
@@ -127,6 +132,11 @@ class Model:
         self.has_log = False
         for name, known in self._ever.items():
             self._last[name] = dict(known)
+
+    def disown(self, name: str, data: bytes) -> None:
+        """What stands at a name stands for two files: it is no more than what somebody put there."""
+        self.standing[name] = Standing(self.standing[name].state)
+        self._last.get(name, {}).pop(data, None)
 
     def settle(self) -> None:
         """Takes what isn't as it was for what somebody else put there, but for what a run wrote last and who put it back."""
@@ -237,6 +247,8 @@ class Oracle:
             yield f"out/{name}, a copy of {old.source.content.name}, is replaced by what was recovered"
         if old.source.content == new.source.content and (old.data, old.notes) != (new.data, new.notes):
             yield f"out/{name}, of {old.source.content.name}, is replaced by what another program recovered of the same"
+        if old.notes is not None and new.notes is not None and kept_by(new.notes) < kept_by(old.notes):
+            yield f"out/{name}, of {old.source.content.name}, is replaced by what has fewer objects"
         # (a copy is better than what was recovered, and what was put right is what LOG had first)
         is_worse, is_known = new.notes is not None or old.notes is None, self.model.has_log and old.source.is_settled
         if is_worse and is_known and old.source.key == new.source.key and new.source.content not in {old.source.content, *new.source.before}:
@@ -246,14 +258,24 @@ class Oracle:
         """(8) What is new is what is to be written."""
         self.model.standing = {name: old for name, old in self.before.items() if self._is_as_it_was(name)}
         for name, state in self.now.items():
+            wish = self.wishes.get(base_of(name))
             if name in self.model.standing:
                 old = self.model.standing[name]
-                self.model.standing[name] = Standing(state, old.wish, old.is_touched)
+                if self._is_of_two(name, old, wish):
+                    self.model.disown(name, state[0])
+                else:
+                    self.model.standing[name] = Standing(state, old.wish, old.is_touched)
                 continue
-            wish = self.wishes.get(base_of(name))
             self.model.standing[name] = Standing(state, wish)
             if wish is None or state[0] != (wish.notes if name.endswith(NOTES) else wish.data):
                 yield f"out/{name} has what is nowhere to be written"
+
+    def _is_of_two(self, name: str, old: Standing, wish: Optional[Wish]) -> bool:
+        """Whether what stands would be written for another file too, of which it is no more than what somebody put there."""
+        if old.wish is None or wish is None or old.wish.source.names & wish.source.names:
+            return False
+        stands = self.now.get(base_of(name)), self.now.get(base_of(name) + NOTES)
+        return [None if one is None else one[0] for one in stands[: 2 if wish.notes is not None else 1]] == [wish.data, *filter(None, [wish.notes])]
 
     def _pairs(self) -> Iterator[str]:
         """(6) Notes that a run left stand beside the output that they are of."""

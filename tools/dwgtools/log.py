@@ -489,6 +489,7 @@ class Log:
         # The further names of files, by the names that stand for these; and the folders that words name, by where they are.
         self._also: Dict[str, List[str]] = {}
         self._tops: Dict[str, List[str]] = {}
+        self._own_folders: Dict[str, str] = {}
         self._new: Dict[str, Row] = {}
         # Files of LOG that have another content than it had, and not by themselves.
         self.others: Set[str] = set()
@@ -647,9 +648,16 @@ class Log:
 
     def _own_name(self, spelled: str) -> str:
         """The name that a file has by a folder that is named, without other links, where it stands below one; else as it is spelled."""
-        place = placed(spelled)
+        folder, last = os.path.split(spelled)
+        if folder not in self._own_folders:
+            self._own_folders[folder] = self._own_folder(folder)
+        return os.path.join(self._own_folders[folder], last)
+
+    def _own_folder(self, spelled: str) -> str:
+        """That name of the folder that a file stands in."""
+        place = absolute_name(spelled)
         top = top_of(place, self._tops)
-        names = [os.path.join(word, below(place, top)) for word in self._tops.get(top, ())]
+        names = [os.path.join(word, below(place, top)).rstrip(os.sep) or os.sep for word in self._tops.get(top, ())]
         return spelled if spelled in names else min(names, default=spelled)
 
     def moved(self, gone: Iterable[str]) -> List[str]:
