@@ -154,11 +154,16 @@ class Case:
 
     def is_below(self, name: str) -> bool:
         """Whether the words name a file, or a folder that it stands in, as it is spelled or by another way to its folder."""
-        return any(f"{one}/".startswith(top.rstrip("/") + "/") for one in (name, placed(name)) for top in self.tops)
+        return any(f"{one}/".startswith(top.rstrip("/") + "/") for one in self.names_of(name) for top in self.tops)
+
+    def names_of(self, name: str) -> Set[str]:
+        """A name of LOG, and the one by another way to the folder in which the file really was; of a folder both."""
+        place = placed(name)
+        return {name, place} if self.before.places.get(name, place) == place else {name}
 
     def is_taken(self, name: str) -> bool:
         """Whether the words name a file, or a folder of which it is taken by how it is called."""
-        return self.is_below(name) and (name.endswith(".dwg") or bool({name, placed(name)} & self.tops))
+        return self.is_below(name) and (name.endswith(".dwg") or bool(self.names_of(name) & self.tops))
 
     def is_walked(self, name: str) -> bool:
         """Whether a file stands below a word by its name as it is spelled."""
@@ -186,7 +191,8 @@ def keeps_files(case: Case) -> Iterator[str]:
 def has_right_status(case: Case) -> Iterator[str]:
     """The status is that of the table, or of what befell the run."""
     ran, verdicts = case.ran, {row["verdict"] for row in case.ran.rows}
-    right = {68 if verdicts & {*FAULTS} else 0} if ran.is_compared else {68} if ran.told("left") else {int(verdicts != {"sound"})}
+    is_left = ran.told("left") > 0 or "--add" in ran.words and "changed" in verdicts
+    right = {68 if verdicts & {*FAULTS} else 0} if ran.is_compared else {68} if is_left else {int(verdicts != {"sound"})}
     right = {*(right if verdicts else {66}), *ran.cut.statuses()}
     if ran.status not in right or "Traceback" in ran.said or "failure of the tool" in ran.said:
         yield f"the status is {ran.status}, not {sorted(right)}"

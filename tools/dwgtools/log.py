@@ -209,11 +209,6 @@ def placed(name: str) -> str:
     return os.path.join(absolute_name(folder), last)
 
 
-def is_named(name: str, tops: Set[str]) -> bool:
-    """Whether a file is one of the words itself, as it is spelled or by another way to its folder."""
-    return name in tops or placed(name) in tops
-
-
 @dataclass
 class Forgotten(Row):
     """A file that LOG was told to have no more. One that was gone only, as older tools wrote, it still has."""
@@ -679,9 +674,15 @@ class Log:
 
         def is_taken(name: str) -> bool:
             folder, last = os.path.split(name)
-            return any(walk.would_take(os.path.join(at, last), top) for at, top in ways[folder]) or is_named(name, tops)
+            found = ((os.path.join(at, last), top) for at, top in ways[folder])
+            return any(path in (name, self._seats.get(name)) and walk.would_take(path, top) for path, top in found) or self.is_named(name, tops)
 
         return sorted(name for name in names if is_taken(name) and self._is_away(name))
+
+    def is_named(self, name: str, tops: Set[str]) -> bool:
+        """Whether a file is one of the words itself, as it is spelled or by another way to the folder in which it really was."""
+        place = placed(name)
+        return name in tops or place in tops and place == self._seats.get(name)
 
     def below(self, words: Iterable[str]) -> Iterator[Tuple[str, str]]:
         """The names of files of LOG that stand below these words, in their order, each with the whole name of the word."""

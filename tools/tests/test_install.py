@@ -169,10 +169,24 @@ class Install(unittest.TestCase):
             self.assertEqual((ran.returncode, self.top.exists()), (2, False), limit)
         self.installed()
 
+    def dying(self, hook: str) -> List[str]:
+        """The words of an install that a hook kills."""
+        begin = "import os, sys; sys.argv = sys.argv[1:]; __file__ = sys.argv[0]\nleft = int(os.environ['LEFT'])\n"
+        end = "\nsys.path.insert(0, os.path.dirname(sys.argv[0]))\nexec(compile(open(sys.argv[0]).read(), sys.argv[0], 'exec'))"
+        return ["python3", "-B", "-c", begin + hook + end, str(TOOLS / "install"), "install", str(self.top), "", str(self.program)]
+
+    def test_two_installs_that_are_killed(self) -> None:
+        """The second one when it has removed what tells of the first."""
+        hook = "{0} = os.{0}\ndef counted(*words):\n    global left\n    left -= {1}\n    if not left:\n        os.kill(os.getpid(), 9)\n    {0}(*words)\nos.{0} = counted"
+        for call, count in (("replace", "1"), ("unlink", "left == 1 or words[0].endswith('MANIFEST.changing')")):
+            ran = subprocess.run(self.dying(hook.format(call, count)), cwd=TOP, check=False, capture_output=True, env={**os.environ, "LEFT": "2"})
+            self.assertEqual(ran.returncode, -9, (ran.stderr, call))
+        self.assertEqual([path for path in self.top.rglob("*.part")], [])
+        self.assertEqual((self.goes("uninstall").returncode, files(self.top)), (0, {}))
+
     def test_an_install_that_is_killed_at_any_moment(self) -> None:
         """What stands there then is the old or the new, each whole; the next install goes well, and uninstalling leaves nothing."""
-        calls = "import os, sys; sys.argv = sys.argv[1:]; __file__ = sys.argv[0]\nleft = int(os.environ['LEFT'])\nreplace = os.replace\ndef counted(*words):\n    global left\n    left -= 1\n    if not left:\n        os.kill(os.getpid(), 9)\n    replace(*words)\nos.replace = counted\nsys.path.insert(0, os.path.dirname(sys.argv[0]))\nexec(compile(open(sys.argv[0]).read(), sys.argv[0], 'exec'))"
-        words = ["python3", "-B", "-c", calls, str(TOOLS / "install"), "install", str(self.top), "", str(self.program)]
+        words = self.dying("replace = os.replace\ndef counted(*words):\n    global left\n    left -= 1\n    if not left:\n        os.kill(os.getpid(), 9)\n    replace(*words)\nos.replace = counted")
         new = self.folder / "new"
         subprocess.run(["python3", "-B", str(TOOLS / "install"), "install", str(new), "", str(self.program)], check=True)
         # (the manifest is written twice)

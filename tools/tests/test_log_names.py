@@ -659,6 +659,24 @@ class Names(common.InFolder):
             self.assertEqual(self.keep("--follow", top)[1:], [])
             self.assertEqual(self.compare()[1][f"{link}/first/a.dwg"], "changed of the same size and time")
 
+    def test_a_folder_in_whose_place_a_link_stands(self) -> None:
+        """Its files are none of the folder that the link leads to: neither forgotten nor moved with those."""
+        one, other = self.volume("2024", "a.dwg", "c.dwg"), self.volume("2025", "b.dwg")
+        os.rename(other / "b.dwg", other / "a.dwg")
+        self.assertEqual(self.keep(one, other), [])
+        shutil.rmtree(other)
+        other.symlink_to(one)
+        (one / "a.dwg").unlink()
+        before = self.log.read_bytes()
+        for words in ([one / "a.dwg"], [one]):
+            self.log.write_bytes(before)
+            self.assertEqual(self.keep("--forget", *words)[0], "1 of its files are gone, and it has them no more; the first is 2024/a.dwg")
+            self.assertEqual(self.compare(), (68, {"2024/c.dwg": "same", "2025/a.dwg": "missing"}))
+        self.log.write_bytes(before)
+        self.file("2024/copy.dwg", DATA["b.dwg"])
+        self.assertEqual(self.keep(one), ["1 of its files are gone, which it keeps (--forget has it forget them); the first is 2024/a.dwg"])
+        self.assertEqual(self.keep("--forget", other)[0], "2 of its files are gone, and it has them no more; the first is 2024/a.dwg")
+
     def test_log_in_the_archive_tells_of_no_volume(self) -> None:
         top = self.volume("archive")
         volume = self.volume("archive/vol", "a.dwg")
