@@ -247,7 +247,7 @@ class Oracle:
             yield f"out/{name}, a copy of {old.source.content.name}, is replaced by what was recovered"
         if old.source.content == new.source.content and (old.data, old.notes) != (new.data, new.notes):
             yield f"out/{name}, of {old.source.content.name}, is replaced by what another program recovered of the same"
-        if old.notes is not None and new.notes is not None and kept_by(new.notes) < kept_by(old.notes):
+        if not name.endswith(NOTES) and old.notes is not None and new.notes is not None and kept_by(new.notes) < kept_by(old.notes):
             yield f"out/{name}, of {old.source.content.name}, is replaced by what has fewer objects"
         # (a copy is better than what was recovered, and what was put right is what LOG had first)
         is_worse, is_known = new.notes is not None or old.notes is None, self.model.has_log and old.source.is_settled

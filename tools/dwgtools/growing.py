@@ -290,8 +290,8 @@ class Growing(Checker):
         """Writes a whole drawing as it is, with its times, unless it stands."""
         assert line.sha256 is not None
         made = Made(self.one.name, line.sha256)
-        recovery = self.tree.last_of(self.one.name, self.source)
-        if recovery is not None and recovery.sha256 == line.sha256 and self.is_there(file, recovery):
+        recovery = self.tree.written_as(self.one.name, line.sha256, self.source)
+        if recovery is not None and self.is_there(file, recovery):
             # (somebody put in the place of a damaged drawing what was recovered of it)
             self.tree.add(line)
             self.written([Spot(self.out), Spot(self.notes)])
@@ -442,9 +442,9 @@ class Growing(Checker):
                 raise Refused(f"{whole.path} is of another content, and that of the file changed though its size and time didn't; --force replaces it")
             if there != digest and self.tree.is_whole(name, there) and not made.is_whole and not self.grower.options.force:
                 raise Refused(f"{whole.path} is whole, and what is recovered isn't; --force replaces it")
-            last = self.tree.last_of(name, self.source)
-            if last is not None and last.sha256 == there and (made.kept or 0) < (last.kept or 0) and not made.is_whole and not self.grower.options.force:
-                raise Refused(f"{whole.path} has {last.kept} objects, and what is recovered now {made.kept}; --force replaces it")
+            better = self.tree.written_as(name, there, self.source)
+            if better is not None and (made.kept or 0) < (better.kept or 0) and not made.is_whole and not self.grower.options.force:
+                raise Refused(f"{whole.path} has {better.kept} objects, and what is recovered now {made.kept}; --force replaces it")
             if os.path.samestat(state, self.tree.place):
                 raise Refused(f"{whole.path} is the log")
             whole.force, whole.judged = True, state

@@ -201,10 +201,13 @@ class TreeLog(Log):
         # (notes are moved aside, and perhaps put back)
         return known.last is None or there.st_ctime_ns <= known.at_ns
 
-    def last_of(self, name: str, source: str) -> Optional[Made]:
-        """What a run wrote last of a file under a name below OUT."""
+    def written_as(self, name: str, digest: str, source: str) -> Optional[Made]:
+        """What a run wrote last of a file under a name below OUT, or before what was never placed there, where that has such a content."""
         known = self._outputs.get(name)
-        return known.last if known is not None and known.source == source else None
+        for one in () if known is None else (known, known.before):
+            if one is not None and one.source == source and one.last is not None and one.last.sha256 == digest:
+                return one.last
+        return None
 
     def is_of(self, name: str, digest: str, content: Optional[str]) -> bool:
         """Whether a run wrote a file of such a name and content below OUT, of a source of this content."""
