@@ -17,6 +17,7 @@ from .patterns import compiled
 from .statuses import Exit, ToolError
 from .streams import as_file, is_any_version, is_one_file, outputs, refuse_pipes, refuse_streams, status_at
 from .versions import MOST_HEADER
+from .whole_names import absolute_name
 
 
 @dataclass(frozen=True)
@@ -133,7 +134,8 @@ class Entry:
     is_linked: bool = False
     is_link: bool = False
     folder: Optional["Entry"] = None
-    place: Place = (0, 0)
+    # The whole name of a folder that is walked: on some file systems two have one number.
+    place: str = ""
 
 
 class Walked:
@@ -141,12 +143,12 @@ class Walked:
     one that it stands in, it is looked at again."""
 
     def __init__(self) -> None:
-        self._places: Set[Place] = set()
-        self._left: Dict[Place, Set[str]] = {}
+        self._places: Set[str] = set()
+        self._left: Dict[str, Set[str]] = {}
 
     def names_left(self, folder: Entry) -> Optional[Set[str]]:
         """Which names of a folder are to be looked at; None where all are, as it is walked for the first time."""
-        folder.place = place_of(os.stat(folder.path))
+        folder.place = absolute_name(folder.path)
         if folder.place in self._places:
             return self._left.get(folder.place, set())
         self._places.add(folder.place)

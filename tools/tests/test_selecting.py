@@ -8,6 +8,7 @@ import os
 import random
 import subprocess
 import unittest
+import unittest.mock
 from typing import Any, List
 
 import common
@@ -113,6 +114,18 @@ class Walks(common.InFolder):
         # By a word of its own too.
         self.assertEqual(sorted(found("current", "snap/*", "*ring", more="snap")), whole)
         self.assertEqual(sorted(found("current", "snap/old/deep", "*ring", more="snap/old")), whole)
+
+    def test_folders_of_one_number_are_two(self) -> None:
+        """As on file systems that show several as one."""
+        stat = os.stat
+
+        def alike(path: Any, **more: Any) -> os.stat_result:
+            told = stat(path, **more)
+            return os.stat_result((told.st_mode, 7, *told[2:])) if os.path.isabs(path) and not os.path.basename(path).count(".") else told
+
+        with unittest.mock.patch.object(os, "stat", alike):
+            found = self.found(Walk(follow=True))
+        self.assertEqual(found, self.found(Walk()))
 
     def test_a_link_that_may_lead_to_a_folder_is_told(self) -> None:
         """As one to a volume that isn't mounted, or to where nobody may look."""
