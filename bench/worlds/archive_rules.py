@@ -270,15 +270,15 @@ def has_table(case: Case) -> Iterator[str]:
 
 def has_own_names(case: Case) -> Iterator[str]:
     """LOG has each file of the table also by the name that it has below the folder of the words that it really stands in."""
-    if "--" not in case.ran.words:
+    if "--" not in case.ran.words or case.ran.told("left"):
         return
     words = case.ran.words[case.ran.words.index("--") + 1 :]
     tops = [(os.path.realpath(os.path.join(case.ran.folder, word)), spelled(case.ran.folder, word)) for word in words]
-    for path, row in case.rows("changed", "failed"):
+    for path, row in case.rows("failed"):
         own = spelled(case.ran.folder, row["path"])
         ways = [(top, word + placed(own)[len(top) :]) for top, word in tops if placed(own).startswith(f"{top}/")]
         named = {name for top, name in ways if len(top) == max(len(other) for other, _ in ways)}
-        if case.before.contents.get(path, row["sha256"]) == row["sha256"] and (own if own in named else min(named, default=own)) not in case.after.places:
+        if (own if own in named else min(named, default=own)) not in case.after.places:
             yield f"LOG doesn't have {path} as {sorted(named) or own}"
 
 

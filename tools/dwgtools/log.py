@@ -305,6 +305,7 @@ class Names:
         if not is_older or told.get("forgotten") is True:
             self._drop(name)
             return [name]
+        link = link_of_path(told["path"], name) if link is None else link
         # (of what can't be read, or changed by itself, nobody knows where a link leads)
         if told["verdict"] not in ("unreadable", "changed"):
             self._drop(name)
@@ -323,6 +324,19 @@ class Names:
         led = self._led.pop(name, None)
         if led is not None:
             self._leading[led].discard(name)
+
+
+def key_of(name: str, row: Row) -> Key:
+    """By what a line of LOG is known again."""
+    return name, row.bytes or 0, UNTIMED if row.mtime_ns is None else row.mtime_ns
+
+
+def link_of_path(path: str, name: str) -> Optional[str]:
+    """The name of a link of which the oldest tools told the path alone, beside the name to which it led, and leads now; None where that is no link."""
+    if path == name or name.endswith(os.sep + path):
+        return None
+    spelled = spelled_name(path)
+    return spelled if spelled != name and absolute_name(spelled) == name else None
 
 
 def content_of(row: Row) -> Tuple[Optional[str], Optional[int]]:
@@ -549,7 +563,7 @@ class Log:
         if row.verdict == "unreadable":
             self._unreadable[absolute] = row.detail
         elif row.bytes is not None:
-            key = (absolute, row.bytes, UNTIMED if row.mtime_ns is None else row.mtime_ns)
+            key = key_of(absolute, row)
             self._latest[absolute] = key
             self._unreadable.pop(absolute, None)
             if row.mtime_ns is not None:
@@ -602,9 +616,10 @@ class Log:
         """Takes note of a file that is as LOG has it, though perhaps not last."""
         name = self.name_of(row.path)
         key = (name, row.bytes or 0, row.mtime_ns or 0)
+        self._take_further(name, row)
         if self._sees_other(name, row):
             self._withheld.append((name, row))
-        elif self._takes_further(name, row) or self._latest.get(name) != key:
+        elif self._latest.get(name) != key:
             # (it was another meanwhile, which LOG would have of it)
             self.add_line(name, row)
             self._latest[name] = key
@@ -629,17 +644,34 @@ class Log:
         if name not in self._before and self._places.name_at(place) not in self._before:
             self._new[place] = row
 
-    def _takes_further(self, name: str, row: Row) -> bool:
-        """Whether LOG is to have a file also by the name that the words give it, where it has it by another way to its folder."""
+    def _take_further(self, name: str, row: Row, is_changed: bool = False) -> None:
+        """Has LOG have a file also by the name that the words give it, where it has it by another way to its folder, with what it has of it so far."""
         own, names = self._own_name(spelled_name(row.path)), self._also.setdefault(name, [])
-        if own in (name, *names) or row.sha256 is None or self._before.has(own):
-            return False
-        if len(names) < MOST_FURTHER:
-            names.append(own)
-            return True
-        # (where it has more names a line has one, and each stands for itself)
-        self.add_line(own, row)
-        return False
+        if own in (name, *names) or self._before.has(own):
+            return
+        had = self._had(name)
+        found = row if had is None else replace(had, path=row.path)
+        # (of what changed by itself no name has only that)
+        if found.sha256 is None or had is None and is_changed:
+            return
+        if len(names) >= MOST_FURTHER:
+            # (where it has more names a line has one, and each stands for itself)
+            self.add_line(own, found)
+            return
+        names.append(own)
+        if had is None or not self.add_line(name, found) or not self._is_last(name, had):
+            # (what is found is to be the last line)
+            self._latest.pop(name, None)
+
+    def _had(self, name: str) -> Optional[Row]:
+        """What LOG has of the content of a file, by this program."""
+        had = self._before.get(name)
+        return had if had is not None and key_of(name, had) in self._current else None
+
+    def _is_last(self, name: str, had: Row) -> bool:
+        """Whether what LOG has of a content is its last line of a file."""
+        key = key_of(name, had)
+        return self._known.get(key) is had and self._latest.get(name) == key and name not in self._unreadable
 
     def _own_name(self, spelled: str) -> str:
         """The name that a file has by a folder that is named, without other links, where it stands below one; else as it is spelled."""
@@ -717,14 +749,14 @@ class Log:
         key = (name, row.bytes or 0, row.mtime_ns or 0)
         old = self._known.get(key)
         changed = self.as_changed(key, row)
+        self._take_further(name, row, changed is not None)
         if changed is not None:
             row = changed
         elif self._sees_other(name, row):
             self._withheld.append((name, row))
             return row
-        is_there = key in self._current and old is not None and old.sha256 == row.sha256 and name not in self._unreadable and self._latest[name] == key
+        is_there = key in self._current and old is not None and old.sha256 == row.sha256 and name not in self._unreadable and self._latest.get(name) == key
         is_there = is_there and self._seats.get(name, name) == place
-        is_there = not (changed is None and self._takes_further(name, row)) and is_there
         if not is_there and not (row.verdict == "unreadable" and self._unreadable.get(name) == row.detail):
             is_there = self.add_line(name, row)
             if row.bytes is not None:

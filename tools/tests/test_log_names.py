@@ -3,6 +3,7 @@
 from __future__ import annotations
 
 import hashlib
+import json
 import os
 import pathlib
 import random
@@ -612,6 +613,52 @@ class Names(common.InFolder):
                 change(first / "a.dwg")
                 status, found = self.compare()
                 self.assertEqual((status, found["first/a.dwg"], found["current/a.dwg"]), (0 if told == "same" else 68, told, "same"), (told, kept))
+
+    def test_a_file_that_was_changed_is_known_by_each_name(self) -> None:
+        """By somebody: what LOG has by the one name it has by the other, whatever it takes."""
+        for top, add, takes in (("0", [], "takes"), ("1", ["--add"], "doesn't take")):
+            first, second, current = self.volume(f"{top}/first", "a.dwg"), self.volume(f"{top}/second", "a.dwg"), self.folder / top / "current"
+            self.begin_anew()
+            current.symlink_to(first)
+            self.assertEqual(self.keep(current), [])
+            (first / "a.dwg").write_bytes(DATA["c.dwg"])
+            told = [f"1 of its files have another content now, which it {takes}; the first is {top}/current/a.dwg"]
+            self.assertEqual(self.keep(*add, first), told)
+            before = self.log.read_bytes()
+            self.assertEqual((self.keep(*add, first), self.log.read_bytes()), (told if add else [], before))
+            current.unlink()
+            current.symlink_to(second)
+            self.keep(*add, current)
+            status, found = self.compare()
+            self.assertEqual((status, found[f"{top}/first/a.dwg"].split()[0], found[f"{top}/current/a.dwg"]), (68, "changed", "same") if add else (0, "same", "same"))
+            (first / "a.dwg").unlink()
+            self.assertEqual(self.compare()[1][f"{top}/first/a.dwg"], "missing")
+
+    def test_a_file_that_changed_by_itself_is_known_by_each_name(self) -> None:
+        first, second, current = self.volume("first", "a.dwg"), self.volume("second", "a.dwg"), self.folder / "current"
+        current.symlink_to(first)
+        self.assertEqual(self.keep(current), [])
+        rot(first / "a.dwg")
+        seen = lambda *words: tool("dwg-check", "--quiet", "--resume", self.log, *words).stdout.count(b"\tchanged\t")
+        self.assertEqual([seen("--verify", first), seen(first), seen(current)], [1, 1, 1])
+        current.unlink()
+        current.symlink_to(second)
+        self.assertEqual([seen("--verify", current), seen("--verify", first), seen(first)], [0, 1, 1])
+        self.assertEqual(self.compare(first)[1]["first/a.dwg"], "changed of the same size and time")
+
+    def test_a_link_of_which_the_oldest_tools_told_the_path_alone(self) -> None:
+        """From the folder in which they ran, or by its whole name."""
+        store, archive = self.volume("store", "a.dwg"), self.volume("archive")
+        (archive / "l.dwg").symlink_to("../store/a.dwg")
+        self.assertEqual(self.keep(store), [])
+        head, line = made.read_log(self.log)
+        rot(store / "a.dwg")
+        for path, told in (("archive/l.dwg", "changed"), (str(archive / "l.dwg"), "changed"), ("elsewhere/l.dwg", "damaged")):
+            lines = [{name: head[name] for name in ("log", "form", "program")}, {**line, "path": path}]
+            self.log.write_text("".join(json.dumps({name: value for name, value in one.items() if name != "crc32"}) + "\n" for one in lines))
+            words = [str(TOOLS / "dwg-check"), "--quiet", "--resume", str(self.log), "--verify", "archive/l.dwg"]
+            ran = subprocess.run(words, cwd=self.folder, capture_output=True, check=False, env={**os.environ, "DWG": made.PROGRAM})
+            self.assertEqual(ran.stdout.decode().splitlines()[1].split("\t")[1], told, path)
 
     def test_a_name_that_leads_elsewhere_during_a_run(self) -> None:
         """What the other name of the file has stays what it had."""
