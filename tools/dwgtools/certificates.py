@@ -43,7 +43,8 @@ class Certificates:
         self._stood: Set[str] = set()
         # Whether none can be written any more.
         self._is_full = False
-        if os.path.lexists(self.folder) and not os.path.isdir(self.folder):
+        # (a link may lead to a volume that isn't mounted: there are none then, as where the folder can't be read)
+        if os.path.exists(self.folder) and not os.path.isdir(self.folder):
             raise ToolError(f"{self.name} is there, and no folder", Exit.EXISTS)
         mask_of_modes()
         # (of a folder that is open its number is no other's)

@@ -142,6 +142,8 @@ class Grower:
         self._kept: Set[str] = set()
         # What this run has written, by what it is: a file system may take names for one that differ.
         self.written: Set[Tuple[int, int]] = set()
+        # The outputs that took the place of another content.
+        self.replacing: List[str] = []
 
     def grown(self, one: Planned) -> Line:
         """The line of a file: whatever happens to it, there is one. It tells what stands below OUT of another state of the file, so that nobody takes
@@ -374,7 +376,7 @@ class Growing(Checker):
             if self.is_there(file, made):
                 self.stands(line, made)
                 return
-            self.may_replace(file, line, made, files, away)
+            is_other = self.may_replace(file, line, made, files, away)
             line.made, stood = made, self.stood(files[0][0])
             is_added = self.tree.add(line, stood)
             try:
@@ -390,6 +392,7 @@ class Growing(Checker):
             self.refuse_moved(files[0][0], ", and the output went with it")
             self.tree.stands(line)
             self.written([whole for whole, _ in files])
+            self.grower.replacing += [self.out] if is_other else []
             self.say(line, made)
 
     @staticmethod
@@ -418,9 +421,11 @@ class Growing(Checker):
                 found[at] = state_of(whole.there(os.path.basename(path)))
         return found[0], found[1]
 
-    def may_replace(self, file: IO[bytes], line: Line, made: Made, files: Outputs, away: Optional[Spot] = None) -> None:
+    def may_replace(self, file: IO[bytes], line: Line, made: Made, files: Outputs, away: Optional[Spot] = None) -> bool:
         """Has outputs replace what is there, and notes go away, where that is of an earlier run and as it left it; else Refused, unless forced. What is
-        whole, and perhaps the last that is, never gives way to what was recovered, nor to what a file became by itself."""
+        whole, and perhaps the last that is, never gives way to what was recovered, nor to what a file became by itself. Whether a drawing of another
+        content is replaced."""
+        is_other = False
         for whole, digest in files:
             there, state = self.judged(whole, file)
             whole.force, whole.judged = False, None
@@ -448,8 +453,10 @@ class Growing(Checker):
             if os.path.samestat(state, self.tree.place):
                 raise Refused(f"{whole.path} is the log")
             whole.force, whole.judged = True, state
+            is_other |= whole.path == self.out and there != digest
         if away is not None:
             away.force = self.has_own_notes(file, away)
+        return is_other
 
     def is_changed(self, line: Line, name: str, there: str, state: os.stat_result) -> bool:
         """Whether the content of a file changed though its size and time didn't. A copy has these too, of which LOG may not be sure."""
@@ -542,6 +549,13 @@ def tell_left(plan: List[Planned], log: TreeLog, options: argparse.Namespace) ->
         tell(f"{what} there any more{', the first is' if len(left) > 1 else ':'} {one_line(left[0])}")
 
 
+def tell_replacing(outputs: Sequence[str]) -> None:
+    """Tells which outputs took the place of others, as where another volume is mounted where one was."""
+    if outputs:
+        what = f"{len(outputs)} outputs took the place of others" if len(outputs) > 1 else "an output took the place of another"
+        tell(f"{what}, of another content{'; the first is' if len(outputs) > 1 else ':'} {one_line(outputs[0])}")
+
+
 def recover_nothing(log_name: str, made_by: str, told: Callable[[str], None], options: argparse.Namespace) -> int:
     """Tells that nothing is found to recover, and what stands that was recovered before."""
     told(nothing_found(walk_of(options), "recover"))
@@ -578,13 +592,15 @@ def recover_tree(options: argparse.Namespace) -> int:
     log = TreeLog(log_name, told, most & 0o666)
     if sources.has(log.place):
         raise ToolError(f"{log.name} is a file that is read", Exit.EXISTS)
+    grower = Grower(program, log, sources, alike(plan), options)
     try:
         log.begin(made_by)
         progress.begin(Files(plan))
-        table = grow_all(plan, Grower(program, log, sources, alike(plan), options), progress, options)
+        table = grow_all(plan, grower, progress, options)
     finally:
         log.close()
     tell_left(plan, log, options)
+    tell_replacing(sorted(grower.replacing, key=os.fsencode))
     if not options.quiet:
         said = ", ".join(f"{count} {outcome}" for outcome, count in sorted(table.counts.items(), key=lambda item: -item[1]))
         tell(f"{len(plan)} files: {said}")

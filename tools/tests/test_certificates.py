@@ -101,6 +101,22 @@ class Standing(common.InFolder):
         self.assertEqual((told, path.read_bytes()), ([f"{self.certificates}: {path.name} is another file"], b"another"))
         certificates.close()
 
+    def test_a_folder_on_a_volume_that_is_not_mounted(self) -> None:
+        """No run ends by that: what has none is told, and all else is compared."""
+        volume = self.folder / "volume"
+        volume.mkdir()
+        self.certificates.symlink_to("volume")
+        self.assertEqual(self.run_with("--quiet", self.archive).returncode, 0)
+        volume.rename(self.folder / "away")
+        self.file("d/2.dwg", made.made(40))
+        ran = self.run_with("--quiet", "--verify")
+        self.assertEqual((ran.returncode, sorted(line.split("\t")[1] for line in ran.stdout.decode().splitlines()[1:])), (68, ["changed", "not accepted", "not accepted"]))
+        ran = self.run_with("--quiet", self.archive)
+        self.assertEqual((ran.returncode, ran.stdout.count(b"\tsound\t"), os.path.lexists(volume)), (70, 3, False))
+        self.assertIn(os.fsencode(str(self.certificates)), ran.stderr)
+        (self.folder / "away").rename(volume)
+        self.assertEqual((self.run_with("--quiet", self.archive).returncode, self.run_with("--quiet", "--verify").returncode), (0, 0))
+
     def test_a_folder_that_is_removed_meanwhile(self) -> None:
         for state in ("made by the run", "there before", "there with all that is kept"):
             for then in ("", f"mkdir {self.certificates}"):

@@ -28,6 +28,7 @@ import test_limits
 from made import TOOLS, TOP, dwg, flipped, hole, layout, made as drawn, program_that, tool, unescaped, with_page
 
 from dwgtools import growing
+from dwgtools.escapes import one_line
 from dwgtools.log_lines import NoLine
 from dwgtools.statuses import ToolError
 from dwgtools.tree_lines import Line, Made
@@ -144,7 +145,8 @@ def swapped(*words):
 
 def state_below(folder: Path) -> Dict[str, Tuple[int, int, bytes]]:
     """What a folder has, with the times of changes."""
-    paths = [path for path in folder.rglob("*") if path.is_file() and not path.is_symlink()]
+    # (what is larger than any drawing isn't read)
+    paths = [path for path in folder.rglob("*") if path.is_file() and not path.is_symlink() and path.stat().st_size < 1 << 30]
     return {str(path): (path.stat().st_mtime_ns, path.stat().st_nlink, path.read_bytes()) for path in paths}
 
 
@@ -172,11 +174,15 @@ class Tree(common.InFolder):
 
     def grown(self, status: int, *words: object, said: Optional[str] = None) -> List[Dict[str, str]]:
         """The lines of the table of a run, which ends with a status; what it reads is as it was."""
-        before = state_below(self.plans)
+        before, stood = state_below(self.plans), state_below(self.out)
         ran = tool("dwg-recover", "--tree", self.out, *words)
         self.assertEqual((ran.returncode, state_below(self.plans)), (status, before), ran.stderr)
         if said is None:
-            self.assertRegex(ran.stderr.decode(), r"\Adwg-recover: \d+ files: [a-z0-9 ,]+\n\Z")
+            now = state_below(self.out)
+            others = sorted(path for path in stood.keys() & now.keys() if stood[path][-1] != now[path][-1] and not path.endswith((".notes", ".part", LOG)))
+            told = {0: "", 1: f"an output took the place of another, of another content: {''.join(others)}"}
+            first = told.get(len(others), f"{len(others)} outputs took the place of others, of another content; the first is {(others or [''])[0]}")
+            self.assertRegex(ran.stderr.decode(), rf"\A{re.escape(f'dwg-recover: {one_line(first)}') + chr(10) if others else ''}dwg-recover: \d+ files: [a-z0-9 ,]+\n\Z")
         else:
             self.assertEqual(ran.stderr.decode(), said)
         return rows(ran.stdout)
@@ -1021,8 +1027,8 @@ class Resumed(Tree):
         faults = [""]
         adds = {"add": lambda line, _: order.append(f"log {line.made.output}") is None, "sync": lambda: order.append("sync") or faults[0]}
         grower.tree = SimpleNamespace(**adds, stands=lambda line: order.append("stands"), take_back=lambda *words: order.append(f"back {words[-1]}"))
-        grower.grower = SimpleNamespace(alone=lambda file: contextlib.nullcontext(), written=set())
-        grower.may_replace = lambda *words: None
+        grower.grower = SimpleNamespace(alone=lambda file: contextlib.nullcontext(), written=set(), replacing=[])
+        grower.may_replace = lambda *words: False
         grower.refuse_moved = lambda whole, more="": None
         whole = SimpleNamespace(finish=lambda: None, name="a.dwg", there=lambda name: None, is_own=lambda there: False, force=False)
         grower.place(None, Line("a.dwg"), Made("a.dwg", "0" * 64), [(whole, "")], lambda: order.append("place"))
