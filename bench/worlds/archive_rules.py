@@ -278,7 +278,9 @@ def has_own_names(case: Case) -> Iterator[str]:
         own = spelled(case.ran.folder, row["path"])
         ways = [(top, word + placed(own)[len(top) :]) for top, word in tops if placed(own).startswith(f"{top}/")]
         named = {name for top, name in ways if len(top) == max(len(other) for other, _ in ways)}
-        if (own if own in named else min(named, default=own)) not in case.after.places:
+        # (what changed by itself, and stands elsewhere besides, has its name alone)
+        is_alone = row["verdict"] == "changed" and case.before.places.get(path) != os.path.realpath(path)
+        if not is_alone and (own if own in named else min(named, default=own)) not in case.after.places:
             yield f"LOG doesn't have {path} as {sorted(named) or own}"
 
 

@@ -649,7 +649,7 @@ class Log:
         own, names = self._own_name(spelled_name(row.path)), self._also.setdefault(name, [])
         if own in (name, *names) or self._before.has(own):
             return
-        had = self._had(name)
+        had = self._had(name, absolute_name(row.path))
         found = row if had is None else replace(had, path=row.path)
         # (of what changed by itself no name has only that)
         if found.sha256 is None or had is None and is_changed:
@@ -663,10 +663,10 @@ class Log:
             # (what is found is to be the last line)
             self._latest.pop(name, None)
 
-    def _had(self, name: str) -> Optional[Row]:
-        """What LOG has of the content of a file, by this program."""
+    def _had(self, name: str, place: str) -> Optional[Row]:
+        """What LOG has of the content of a file that really is in a place, by this program."""
         had = self._before.get(name)
-        return had if had is not None and key_of(name, had) in self._current else None
+        return had if had is not None and key_of(name, had) in self._current and self._seats.get(name) == place else None
 
     def _is_last(self, name: str, had: Row) -> bool:
         """Whether what LOG has of a content is its last line of a file."""
