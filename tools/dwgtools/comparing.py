@@ -13,7 +13,7 @@ from typing import IO, Any, Callable, Deque, Dict, Iterable, Iterator, List, Opt
 from .certificates import Certificates, refusal_of
 from .escapes import one_line
 from .inputs import bytes_of, is_hollow
-from .log import LED_ELSEWHERE, Contents, Names, Places, content_of, is_away, is_gone, open_log, read_row, refuse_file
+from .log import LED_ELSEWHERE, Contents, Names, Places, content_of, is_away, open_log, read_row, refuse_file
 from .log_lines import Maker, take_lines
 from .program import Program, ProgramFailed
 from .rows import Row, as_object
@@ -208,19 +208,19 @@ def planned(found: Iterable[Named], kept: Kept) -> Tuple[List[Named], List[Row]]
     for one in found:
         name = kept.name_of(one.path)
         # (a word may name a file that is missing)
-        if name not in seen and not (name in kept and is_away(one.path)):
+        if name not in seen and not (name in kept and is_away(one.path) or name in kept.without and kept.is_lost(name)):
             seen.add(name)
             plan.append(one)
     # (a folder that couldn't be read has a line too)
-    rest = sorted({*kept, *(name for name in kept.without if not os.path.isdir(name))} - seen, key=os.fsencode)
-    gone = {name for name in rest if (is_away if name in kept else is_gone)(name)}
+    rest = sorted({*kept, *(name for name in kept.without if kept.is_lost(name) or not os.path.isdir(name))} - seen, key=os.fsencode)
+    gone = {name for name in rest if kept.is_lost(name)}
     left = [kept.named(name).path for name in rest if name not in gone]
     return [*plan, *((Linked if os.path.islink(path) else Named)(path) for path in left)], [kept.named(name) for name in rest if name in gone and name in kept]
 
 
 def lost_names(kept: Kept) -> List[Row]:
     """The lines of names at which nothing is, of whose files LOG has no content."""
-    files = (kept.named(name) for name in kept.without if is_gone(name))
+    files = (kept.named(name) for name in kept.without if kept.is_lost(name))
     return [Compared(row.path, "missing", kept=row) for row in files]
 
 

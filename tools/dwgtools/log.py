@@ -236,6 +236,11 @@ class Contents(Dict[str, Row]):
         """Whether it has anything of a file."""
         return absolute in self or absolute in self.without
 
+    def is_lost(self, absolute: str) -> bool:
+        """Whether no file is there any more; of what could never be read, as a folder, whether anything is."""
+        row = self.without.get(absolute)
+        return is_away(absolute) if row is None or row.bytes is not None else is_gone(absolute)
+
     def forget(self, absolute: str) -> None:
         """Has nothing of a file any more."""
         self.pop(absolute, None)
@@ -709,7 +714,7 @@ class Log:
             found = ((os.path.join(at, last), top) for at, top in ways[folder])
             return any(path in (name, self._seats.get(name)) and walk.would_take(path, top) for path, top in found) or self.is_named(name, tops)
 
-        return sorted(name for name in names if is_taken(name) and self._is_away(name))
+        return sorted(name for name in names if is_taken(name) and self._before.is_lost(name))
 
     def is_named(self, name: str, tops: Set[str]) -> bool:
         """Whether a file is one of the words itself, as it is spelled or by another way to the folder in which it really was."""
@@ -724,10 +729,6 @@ class Log:
             top = found[os.path.dirname(name)]
             if top:
                 yield name, top
-
-    def _is_away(self, name: str) -> bool:
-        """Whether what LOG has by a name isn't there any more; of what could never be read, as a folder, whether anything is."""
-        return is_gone(name) if name in self._before.without else is_away(name)
 
     def forget(self, names: Iterable[str]) -> None:
         """Has LOG have files no more, by no name."""

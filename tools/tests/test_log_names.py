@@ -827,6 +827,22 @@ class Names(common.InFolder):
         self.file("d/odd.dwg", DATA["b.dwg"])
         self.assertEqual(self.compare(), (0, {"d/a.dwg": "same", "d/odd.dwg": "new sound"}))
 
+    def test_a_file_without_content_in_whose_place_a_folder_stands(self) -> None:
+        """It is lost as any other: a folder was never a file of so many bytes."""
+        volume = self.volume("d", "a.dwg")
+        path = self.file("d/b.dwg", b"")
+        os.truncate(path, 100 << 20)
+        self.keep(volume)
+        self.assertEqual(self.compare(volume)[1]["d/b.dwg"].split()[0], "new")
+        path.unlink()
+        for _ in range(2):
+            for words in ([], [volume], [path, volume]):
+                self.assertEqual(self.compare(*words), (68, {"d/a.dwg": "same", "d/b.dwg": "missing"}), words)
+            self.assertEqual(self.keep(volume), ["1 of its files are gone, which it keeps (--forget has it forget them); the first is d/b.dwg"])
+            path.mkdir(exist_ok=True)
+        self.assertEqual(self.keep("--forget", volume), ["1 of its files are gone, and it has them no more; the first is d/b.dwg"])
+        self.assertEqual(self.compare(), (0, {"d/a.dwg": "same"}))
+
     def test_another_content_that_a_link_leads_to_is_told(self) -> None:
         """A file by a link, and a folder."""
         first, second = self.volume("first", "a.dwg", "b.dwg"), self.volume("second", "a.dwg")
