@@ -148,7 +148,9 @@ class Comparer(Checker):
     def checked(self, file: IO[bytes], row: Row) -> Row:
         told, kept = os.fstat(file.fileno()), self._kept.get(self._kept.name_of(row.path))
         line = Compared(row.path, "new", bytes=told.st_size, mtime_ns=told.st_mtime_ns, kept=kept, is_new=kept is None)
-        line.sha256 = None if is_hollow(file, told.st_size) else self.digest(file, told.st_size)
+        # (one of which LOG has the SHA-256 was read once, whatever holes it has now)
+        is_read = kept is not None and kept.bytes == told.st_size or not is_hollow(file, told.st_size)
+        line.sha256 = self.digest(file, told.st_size) if is_read else None
         had = self._missing.verdict_of(line) if kept is None else kept.verdict
         if kept is not None and content_of(line) != content_of(kept):
             line.verdict, line.detail = "changed", change_of(line, kept)

@@ -591,9 +591,10 @@ class Log:
         """The name under which LOG has a file, or would have it."""
         return self._places.name_of(path)
 
-    def has_digest(self, path: str) -> bool:
-        """Whether LOG had the SHA-256 of a file when the run began, whatever that was then."""
-        return self.name_of(path) in self._before
+    def has_digest(self, path: str, size: Optional[int] = None) -> bool:
+        """Whether LOG had the SHA-256 of a file when the run began, whatever that was then, or only one of such a size."""
+        had = self._before.get(self.name_of(path))
+        return had is not None and size in (None, had.bytes)
 
     def of_content(self, digest: str) -> Optional[Row]:
         """What a content is found to be by this program."""
@@ -640,6 +641,9 @@ class Log:
     def take_others(self) -> None:
         """Has LOG take the other contents, which are told now."""
         for name, row in self._withheld:
+            # (a line without a SHA-256 takes the place of none)
+            if row.sha256 is None:
+                self.forget([name])
             if self.add_line(name, row):
                 self._take_new(name, row)
 

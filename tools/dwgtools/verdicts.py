@@ -82,7 +82,11 @@ class Checker:
     def content(self, file: IO[bytes], row: Row) -> Iterator[IO[bytes]]:
         """What is judged: the file, or where its line has a SHA-256 the very bytes that have it, which nobody can change meanwhile."""
         size = row.bytes or 0
-        if self.log is None or size > LIMIT and not self.has_all_digests and not self.log.has_digest(row.path) or is_hollow(file, size):
+        if self.log is None or size > LIMIT and not self.has_all_digests and not self.log.has_digest(row.path):
+            yield file
+            return
+        # (one of which LOG has the SHA-256 was read once, whatever holes it has now)
+        if is_hollow(file, size) and not self.log.has_digest(row.path, size):
             yield file
             return
         try:

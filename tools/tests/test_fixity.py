@@ -347,10 +347,12 @@ class Fixity(common.InFolder):
         for name in ("y.dwg", "z.dwg"):
             with open(self.archive / name, "wb") as file:
                 file.truncate(1 << 43)
+        self.assertEqual(self.compared()["z.dwg"], f"changed it had {len(made.made(7))} bytes")
         ran = self.keep()
         self.assertEqual((ran.returncode, ran.stderr, ran.stdout.count(f"\t{1 << 43}\t".encode())), (1, self.other("z.dwg"), 2))
         compared = self.compared()
-        self.assertEqual((compared["y.dwg"], compared["z.dwg"]), ("new no drawing: the first 33619968 bytes are zero", f"changed it had {len(made.made(7))} bytes"))
+        self.assertEqual((compared["y.dwg"], compared["z.dwg"]), ("new no drawing: the first 33619968 bytes are zero",) * 2)
+        self.assertEqual(self.keep().stderr, b"")
         # What has as much on the disk as its size says is read, and so is a little hole.
         large = self.archive / "y.dwg"
         with open(large, "wb") as file:

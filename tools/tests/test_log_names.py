@@ -827,6 +827,29 @@ class Names(common.InFolder):
         self.file("d/odd.dwg", DATA["b.dwg"])
         self.assertEqual(self.compare(), (0, {"d/a.dwg": "same", "d/odd.dwg": "new sound"}))
 
+    def test_a_file_that_becomes_hollow(self) -> None:
+        """Of the same bytes it is the same, and of others LOG takes it as it is, once that is told."""
+        volume = self.volume("d", "a.dwg")
+        path, other = self.folder / "d" / "b.dwg", self.volume("e") / "b.dwg"
+        other.symlink_to(path)
+        path.write_bytes(bytes(65 << 20))
+        self.assertEqual([self.keep(volume), self.keep(other)], [[], []])
+        told = os.stat(path)
+        path.unlink()
+        path.touch()
+        os.truncate(path, told.st_size)
+        os.utime(path, ns=(told.st_mtime_ns, told.st_mtime_ns))
+        same = {name: "same" for name in ("d/a.dwg", "d/b.dwg", "e/b.dwg")}
+        self.assertEqual((self.compare(), self.keep(volume, other)), ((0, same), []))
+        os.utime(path)
+        self.assertEqual((self.compare(), self.keep(volume, other)), ((0, same), []))
+        os.truncate(path, 100 << 20)
+        self.assertEqual(self.compare()[0], 68)
+        self.assertEqual(self.keep(volume, other), ["2 of its files have another content now, which it takes; the first is d/b.dwg"])
+        status, found = self.compare()
+        self.assertEqual((status, {name: told.split()[0] for name, told in found.items()}), (0, {**same, "d/b.dwg": "new", "e/b.dwg": "new"}))
+        self.assertEqual(self.keep(volume, other), [])
+
     def test_a_file_without_content_in_whose_place_a_folder_stands(self) -> None:
         """It is lost as any other: a folder was never a file of so many bytes."""
         volume = self.volume("d", "a.dwg")
