@@ -40,6 +40,17 @@ class Docs(unittest.TestCase):
         self.assertEqual((ran.returncode, last[2], last[3], ran.stderr), (0, "0", "1", ""), ran.stdout)
         self.assertGreaterEqual(int(last[1]), 30)
 
+    def test_the_recipe_of_carry_finds_nothing_that_it_wrote(self) -> None:
+        """Where the folder of the drawings is the one that it works in."""
+        found = re.search(r"find -H samples crates/dwg_cli/data (.+?)-exec", (TOP / "docs" / "RECIPES.md").read_text())
+        assert found is not None
+        for name in ("a.dwg", "carried/drawings/a.dwg", "s/carried/b.dwg"):
+            (self.folder / name).parent.mkdir(parents=True, exist_ok=True)
+            (self.folder / name).touch()
+        for top in (".", f"{self.folder}"):
+            ran = subprocess.run(f"find -H '{top}' {found[1]} -print", shell=True, cwd=self.folder, capture_output=True, text=True, check=True)
+            self.assertEqual(sorted(os.path.relpath(self.folder / path, self.folder) for path in ran.stdout.splitlines()), ["a.dwg", "s/carried/b.dwg"])
+
     def test_all_documents_have_examples(self) -> None:
         for document in CHECK.DOCUMENTS:
             self.assertGreaterEqual(len(CHECK.examples_of(document.read_text())), 6, document)
