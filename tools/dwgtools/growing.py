@@ -292,9 +292,7 @@ class Growing(Checker):
         """Writes a whole drawing as it is, with its times, unless it stands."""
         assert line.sha256 is not None
         made = Made(self.one.name, line.sha256)
-        recovery = self.tree.written_as(self.one.name, line.sha256, self.source)
-        if recovery is not None and self.is_there(file, recovery):
-            # (somebody put in the place of a damaged drawing what was recovered of it)
+        if self.is_recovery(file, content, line):
             self.tree.add(line)
             self.written([Spot(self.out), Spot(self.notes)])
             line.output, line.detail = self.out, "; ".join(filter(None, [line.detail, f"it was recovered, as {self.notes} tells"]))
@@ -305,13 +303,33 @@ class Growing(Checker):
             line.detail = "; ".join(filter(None, [line.detail, more]))
             return
         with self.folder() as at, self.begun(file, self.out, at) as whole:
-            for piece in pieces_of(content, line.bytes or 0):
-                whole.file.write(piece)
-            told = os.fstat(file.fileno())
-            whole.times = told.st_atime_ns, told.st_mtime_ns
-            self.refuse_changed(file, line)
+            self.write_copy(whole, file, content, line)
             notes = whole.spot(os.path.basename(self.notes))
             self.place(file, line, made, [(whole, line.sha256)], lambda: self.place_alone(whole, notes), notes)
+
+    def write_copy(self, whole: WholeFile, file: IO[bytes], content: IO[bytes], line: Line) -> None:
+        """Writes a drawing as it is into an output that is begun, with its times."""
+        for piece in pieces_of(content, line.bytes or 0):
+            whole.file.write(piece)
+        told = os.fstat(file.fileno())
+        whole.times = told.st_atime_ns, told.st_mtime_ns
+        self.refuse_changed(file, line)
+
+    def is_recovery(self, file: IO[bytes], content: IO[bytes], line: Line) -> bool:
+        """Whether somebody put in the place of a damaged drawing what was recovered of it, of which the notes stand: they stay. An output that was moved
+        there stands again then."""
+        recovery = self.tree.written_as(self.one.name, line.sha256 or "", self.source)
+        if recovery is None or recovery.notes is None or self.digest_at(Spot(self.notes), file) != recovery.notes:
+            return False
+        if self.digest_at(Spot(self.out), file) is None:
+            with self.folder() as at, self.begun(file, self.out, at) as whole:
+                self.write_copy(whole, file, content, line)
+                whole.finish()
+                with self.grower.alone(whole):
+                    self.refuse_moved(whole)
+                    whole.place()
+                    self.refuse_moved(whole, ", and the output went with it")
+        return self.is_there(file, recovery)
 
     def folder(self) -> ContextManager[int]:
         """The folder in which the outputs are to stand."""

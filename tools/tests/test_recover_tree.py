@@ -2007,6 +2007,12 @@ class Replaced(Tree):
             if "skip" not in words:
                 self.assertIn(row["outcome"], ("sound", "unsound"))
                 self.assertEqual((row["output"], row["detail"].split("; ")[-1]), (str(out), f"it was recovered, as {notes} tells"))
+        # What was moved there stands again.
+        os.replace(out, source)
+        for _ in range(2):
+            (row,) = self.grown(0, "--whole", "copy", source)
+            self.assertEqual((row["output"], row["detail"].split("; ")[-1]), (str(out), f"it was recovered, as {notes} tells"))
+            self.assertEqual((out.read_bytes(), notes.read_bytes(), os.stat(out).st_mtime_ns), (*told, os.stat(source).st_mtime_ns))
         source.write_bytes(data)
         self.grown(0, "--whole", "copy", source)
         self.assertEqual((out.read_bytes(), notes.exists()), (data, False))
