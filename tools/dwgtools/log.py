@@ -112,9 +112,17 @@ def names_of_words(words: Iterable[str]) -> Set[str]:
 
 
 def ways_below(folder: str, tops: Set[str]) -> List[Tuple[str, str]]:
-    """The names by which a folder is one of the words or below one, as it is spelled and where it leads, each with that of the word."""
-    ways = ((name, top_of(name, tops)) for name in (folder, absolute_name(folder)))
-    return [(name, top) for name, top in ways if top]
+    """The names by which a folder is one of the words or below one, as it is spelled and where it leads, each with that of each such word."""
+    return [(name, top) for name in dict.fromkeys((folder, absolute_name(folder))) for top in tops_of(name, tops)]
+
+
+def tops_of(name: str, tops: Set[str]) -> Iterator[str]:
+    """Those of some whole names that a name is, or is below, the nearest one first."""
+    top = top_of(name, tops)
+    while top:
+        yield top
+        above = os.path.dirname(top)
+        top = top_of(above, tops) if above != top else ""
 
 
 def is_below(folder: str, tops: Set[str]) -> bool:
@@ -726,13 +734,10 @@ class Log:
         return name in tops or place in tops and place == self._seats.get(name)
 
     def below(self, words: Iterable[str]) -> Iterator[Tuple[str, str]]:
-        """The names of files of LOG that stand below these words, in their order, each with the whole name of the word."""
+        """The names of files of LOG that stand below these words, in their order, each with the whole name of each such word."""
         tops = {spelled_name(word) for word in filter(None, words)}
-        found = {folder: top_of(folder, tops) for folder in {os.path.dirname(name) for name in self._before}}
-        for name in sorted(self._before):
-            top = found[os.path.dirname(name)]
-            if top:
-                yield name, top
+        found = {folder: [*tops_of(folder, tops)] for folder in {os.path.dirname(name) for name in self._before}}
+        return ((name, top) for name in sorted(self._before) for top in found[os.path.dirname(name)])
 
     def forget(self, names: Iterable[str]) -> None:
         """Has LOG have files no more, by no name."""

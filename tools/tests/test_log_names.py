@@ -724,6 +724,22 @@ class Names(common.InFolder):
         self.assertEqual(self.keep(one), ["1 of its files are gone, which it keeps (--forget has it forget them); the first is 2024/a.dwg"])
         self.assertEqual(self.keep("--forget", other)[0], "2 of its files are gone, and it has them no more; the first is 2024/a.dwg")
 
+    def test_what_one_word_leaves_out_another_takes(self) -> None:
+        """Of words that stand in each other: what a pattern matches below the one only."""
+        top, path = self.volume("a", "b.dwg"), self.volume("a/b/c", "a.dwg") / "a.dwg"
+        for pattern in ("c/a.dwg", "b/c/a.dwg"):
+            self.begin_anew()
+            self.file("a/b/c/a.dwg", DATA["a.dwg"])
+            words = ("--exclude", pattern, top, top / "b")
+            self.assertEqual(self.keep(*words), [])
+            self.assertEqual(self.compare(), (0, {"a/b.dwg": "same", "a/b/c/a.dwg": "same"}))
+            path.unlink()
+            gone = "1 of its files are gone, {}; the first is a/b/c/a.dwg".format
+            for follow in ([], ["--follow"]):
+                self.assertEqual(self.keep(*follow, *words), [gone("which it keeps (--forget has it forget them)")], pattern)
+            self.file("a/b/c/kept.txt", b"")
+            self.assertEqual(self.keep("--forget", *words), [gone("and it has them no more")])
+
     def test_log_in_the_archive_tells_of_no_volume(self) -> None:
         top = self.volume("archive")
         volume = self.volume("archive/vol", "a.dwg")
