@@ -15,7 +15,7 @@ from .rows import Row
 from .statuses import Exit, ToolError
 from .tree_lines import Line, Made, State
 from .trees import NOTES
-from .whole_names import absolute_name
+from .whole_names import absolute_name, spelled_name
 
 # The numbers of what was written.
 NUMBERS = ("kept", "lost", "found", "findings")
@@ -122,9 +122,12 @@ class TreeLog(Log):
         super().__init__(path, tell_fault, mode)
 
     def name_of(self, path: str) -> str:
-        """The name that LOG has for a file, by a link that it is too, or its whole name, whatever links lead there."""
-        name = self._places.name_of(path)
-        return name if name in self._names else self._places.name_at(absolute_name(path))
+        """The name that LOG has for a file, by a link that it is too, or its whole name, whatever links lead there. One that leads there now is its own
+        only where the file stood there."""
+        spelled, place = spelled_name(path), absolute_name(path)
+        found = spelled, self._places.name_of(path), self._places.name_at(place)
+        own = (name for name in found if name in self._names and (name == spelled or self._seats.get(name) == place))
+        return next(own, place)
 
     def take_line(self, told: Dict[str, Any], maker: Optional[Maker], is_current: bool) -> None:
         made = read_made(told.get("made"))

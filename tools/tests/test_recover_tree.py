@@ -2017,6 +2017,21 @@ class Replaced(Tree):
         self.grown(0, "--whole", "copy", source)
         self.assertEqual((out.read_bytes(), notes.exists()), (data, False))
 
+    def test_a_link_that_stood_in_the_place_of_a_folder_for_a_while(self) -> None:
+        """What is written of a file meanwhile is its own, and stays so when the link is gone."""
+        for name in ("one", "two"):
+            (self.plans / name).mkdir()
+            (self.plans / name / "x.dwg").write_bytes(older(drawn(20, len(name))))
+        self.grown(1, self.plans / "one")
+        shutil.rmtree(self.plans / "one")
+        (self.plans / "one").symlink_to("two")
+        self.grown(1, self.plans / "two")
+        (self.plans / "one").unlink()
+        for data in (older(drawn(30, 3)), older(drawn(40, 4))):
+            (self.plans / "two" / "x.dwg").write_bytes(data)
+            self.assertEqual([row["outcome"] for row in self.grown(1, self.plans / "two")], ["recovered"])
+            self.assertEqual((self.out / "two" / "x.dwg").read_bytes(), dwg("recover", given=data).stdout)
+
     def test_names_that_a_file_system_may_take_for_one(self) -> None:
         """One that heeds no capital letters, and numbers its files by their names, shows by its folders alone what stands there."""
         names = ["p/a.dwg", "p/A.dwg", "P/b.dwg", "p/b.dwg", "p/c.dwg", "p/C.DWG.notes", "p/\u00e9.dwg", "p/e\u0301.dwg", "p/d.dwg", "q/a.dwg", "p/\udcff.dwg"]
