@@ -12,7 +12,7 @@ import re
 import stat
 import threading
 from dataclasses import asdict, dataclass, replace
-from typing import IO, Any, Callable, Collection, Dict, Iterable, Iterator, List, Optional, Set, Tuple
+from typing import IO, Any, Callable, Collection, Dict, Iterable, List, Optional, Set, Tuple
 
 from .arguments import commit
 from .escapes import one_line
@@ -111,23 +111,17 @@ def names_of_words(words: Iterable[str]) -> Set[str]:
     return found
 
 
-def ways_below(folder: str, tops: Set[str]) -> List[Tuple[str, str]]:
-    """The names by which a folder is one of the words or below one, as it is spelled and where it leads, each with that of each such word."""
-    return [(name, top) for name in dict.fromkeys((folder, absolute_name(folder))) for top in tops_of(name, tops)]
-
-
-def tops_of(name: str, tops: Set[str]) -> Iterator[str]:
-    """Those of some whole names that a name is, or is below, the nearest one first."""
-    top = top_of(name, tops)
-    while top:
-        yield top
-        above = os.path.dirname(top)
-        top = top_of(above, tops) if above != top else ""
-
-
 def is_below(folder: str, tops: Set[str]) -> bool:
     """Whether a folder is one of the words or below one, as it is spelled or where it leads."""
-    return bool(ways_below(folder, tops))
+    return bool(top_of(folder, tops) or top_of(absolute_name(folder), tops))
+
+
+def is_taken(path: str, near: str, tops: Set[str], walk: Walk) -> bool:
+    """Whether the walk of a word takes a file, by the nearest word that it is below, or by one which that one is below."""
+    while near and not walk.would_take(path, near):
+        above = os.path.dirname(near)
+        near = top_of(above, tops) if above != near else ""
+    return bool(near)
 
 
 def inner_folders(folder: str, own: Collection[Place]) -> Optional[List[str]]:
@@ -719,25 +713,25 @@ class Log:
         nothing is known."""
         tops, names = names_of_words(words), {*self._before, *self._before.without}
         # (many files stand in one folder)
-        ways = {folder: ways_below(folder, tops) for folder in {os.path.dirname(name) for name in names}}
+        folders = {folder: {at: top_of(at, tops) for at in (folder, absolute_name(folder))} for folder in {os.path.dirname(name) for name in names}}
 
-        def is_taken(name: str) -> bool:
+        def is_of_words(name: str) -> bool:
             folder, last = os.path.split(name)
-            found = ((os.path.join(at, last), top) for at, top in ways[folder])
-            return any(path in (name, self._seats.get(name)) and walk.would_take(path, top) for path, top in found) or self.is_named(name, tops)
+            found = ((os.path.join(at, last), near) for at, near in folders[folder].items())
+            return any(path in (name, self._seats.get(name)) and is_taken(path, near, tops, walk) for path, near in found) or self.is_named(name, tops)
 
-        return sorted(name for name in names if is_taken(name) and self._before.is_lost(name))
+        return sorted(name for name in names if is_of_words(name) and self._before.is_lost(name))
 
     def is_named(self, name: str, tops: Set[str]) -> bool:
         """Whether a file is one of the words itself, as it is spelled or by another way to the folder in which it really was."""
         place = placed(name)
         return name in tops or place in tops and place == self._seats.get(name)
 
-    def below(self, words: Iterable[str]) -> Iterator[Tuple[str, str]]:
-        """The names of files of LOG that stand below these words, in their order, each with the whole name of each such word."""
+    def below(self, words: Iterable[str], walk: Walk) -> List[str]:
+        """The names of files of LOG that stand below these words as they are spelled, and that the walk takes, in their order."""
         tops = {spelled_name(word) for word in filter(None, words)}
-        found = {folder: [*tops_of(folder, tops)] for folder in {os.path.dirname(name) for name in self._before}}
-        return ((name, top) for name in sorted(self._before) for top in found[os.path.dirname(name)])
+        near = {folder: top_of(folder, tops) for folder in {os.path.dirname(name) for name in self._before}}
+        return [name for name in sorted(self._before) if is_taken(name, near[os.path.dirname(name)], tops, walk)]
 
     def forget(self, names: Iterable[str]) -> None:
         """Has LOG have files no more, by no name."""
