@@ -13,8 +13,9 @@ from typing import IO, Any, Callable, Deque, Dict, Iterable, Iterator, List, Opt
 from .certificates import Certificates, refusal_of
 from .escapes import one_line
 from .inputs import bytes_of, is_hollow
-from .log import LED_ELSEWHERE, Contents, Names, Places, content_of, is_away, open_log, read_row, refuse_file
+from .log import LED_ELSEWHERE, Contents, content_of, open_log, read_row, refuse_file
 from .log_lines import Maker, take_lines
+from .log_names import Names, Places, is_away
 from .program import Program, ProgramFailed
 from .rows import Row, as_object
 from .statuses import Exit, ToolError

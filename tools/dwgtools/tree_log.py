@@ -8,8 +8,9 @@ from dataclasses import dataclass, fields, replace
 from typing import Any, Callable, Dict, FrozenSet, Optional, Set, Tuple
 
 from .escapes import one_line
-from .log import DIGEST, LEAST, MOST, Key, Log, is_name
+from .log import DIGEST, LEAST, MOST, Key, Log
 from .log_lines import Maker, NoLine, is_number
+from .log_names import is_name
 from .notes import LOSSES
 from .rows import Row
 from .statuses import Exit, ToolError

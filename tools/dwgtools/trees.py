@@ -13,7 +13,7 @@ from dataclasses import dataclass
 from typing import Dict, Iterable, Iterator, List, Optional, Set, Tuple
 
 from .escapes import one_line
-from .log import is_away
+from .log_names import is_away
 from .outputs import is_listed
 from .statuses import Exit, ToolError
 from .streams import as_file, is_one_file, is_standard, outputs, refuse_streams
