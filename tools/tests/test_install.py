@@ -274,15 +274,15 @@ class Install(unittest.TestCase):
         self.assertEqual(modes, {0o755, 0o644})
 
     def test_an_install_without_manifest_is_left_as_it_is(self) -> None:
-        """What it brought nobody knows."""
+        """What it brought nobody knows where anything isn't as it is installed here."""
         self.installed()
         (self.top / "lib/dwg/MANIFEST").unlink()
         (self.top / "bin/dwg").write_bytes(b"own")
         before = files(self.top)
-        for goal in ("install", "uninstall"):
+        said = b"lib/dwg is of an install without MANIFEST; make install in a checkout of its COMMIT takes it up, where nothing else stands there"
+        for goal, more in (("install", b"bin/dwg isn't as it is installed here, and "), ("uninstall", b"")):
             ran = self.goes(goal)
-            self.assertEqual((ran.returncode, files(self.top)), (2, before))
-            self.assertIn(b"lib/dwg is of an install without MANIFEST; make uninstall in a checkout of its COMMIT removes it", ran.stderr)
+            self.assertEqual((ran.returncode, files(self.top), more in ran.stderr, said in ran.stderr), (2, before, True, True), ran.stderr)
 
     def test_what_is_not_installed_any_more_goes(self) -> None:
         self.installed()
@@ -331,15 +331,19 @@ class Install(unittest.TestCase):
         self.assertEqual((self.goes("uninstall").returncode, self.top.exists()), (0, False))
 
     def test_a_manifest_that_is_none(self) -> None:
-        """Nothing is removed by it."""
+        """Nothing is removed by it, and where all is as it is installed it is written anew."""
         self.installed()
         manifest = self.top / "lib/dwg/MANIFEST"
         for text in (b"", b"{}", b"[" * 100_000, b'{"form": 1, "brought": {"../x": []}, "folders": [], "begun": []}', b'{"form": 1, "brought": {}, "folders": [], "begun": ["/x"]}'):
             manifest.write_bytes(text)
             before = files(self.top)
-            for goal in ("install", "uninstall"):
-                ran = self.goes(goal)
-                self.assertEqual((ran.returncode, b"MANIFEST isn't what make install wrote" in ran.stderr, files(self.top)), (2, True, before), (text, goal))
+            ran = self.goes("uninstall")
+            self.assertEqual((ran.returncode, b"MANIFEST isn't what make install wrote" in ran.stderr, files(self.top)), (2, True, before), text)
+            self.installed()
+            self.assertEqual({**before, manifest: b""}, {**files(self.top), manifest: b""})
+        manifest.unlink()
+        self.installed()
+        self.assertEqual((self.goes("uninstall").returncode, files(self.top), (self.top / "lib/dwg").exists()), (0, {}, False))
 
     def test_two_that_install_at_once(self) -> None:
         words = ["make", "-s", f"PREFIX={self.top}", "DWG=true", f"PROGRAM={self.program}"]
