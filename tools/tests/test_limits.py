@@ -550,12 +550,43 @@ class Signals(Checked):
         for name in ("sh", "env"):
             (place / name).symlink_to(str(shutil.which(name)))
         (place / "python3").write_text("#!/bin/sh\necho no memory >&2; exit 1\n")
-        for mode, status in ((0o644, {126, 127}), (0o755, {1})):
+        # (without dd nobody knows how it begins)
+        for mode, status, more in ((0o644, {126, 127}, []), (0o755, {1}, []), (0o755, {1}, ["dd"])):
             (place / "python3").chmod(mode)
+            for name in more:
+                (place / name).symlink_to(str(shutil.which(name)))
             for name in ("dwg-check", "dwg-diff", "dwg-info", "dwg-json", "dwg-picture", "dwg-recover"):
                 with open(path, "ab") as error:
                     ran = subprocess.run([str(TOOLS / name), str(path)], stdout=subprocess.PIPE, stderr=error, check=False, env={"PATH": str(place)})
                 self.assertEqual((ran.returncode in status, ran.stdout, path.read_bytes()), (True, b"", made.made(3)), (name, ran.returncode))
+
+    def test_standard_error_whose_first_line_is_without_end(self) -> None:
+        """As where what was written first was cut away; it isn't read."""
+        error = self.folder / "said"
+        with error.open("wb") as file:
+            file.truncate(1 << 38)
+        for name in ("dwg-check", "dwg-diff", "dwg-info", "dwg-json", "dwg-picture", "dwg-recover"):
+            with error.open("ab") as file:
+                ran = subprocess.run([str(TOOLS / name), "--version"], stdout=subprocess.DEVNULL, stderr=file, check=False, timeout=60)
+            self.assertEqual((ran.returncode, error.stat().st_size), (0, 1 << 38), name)
+
+    def test_no_room_for_a_process(self) -> None:
+        """Where standard error is a file that is said in it, unless it is a drawing."""
+        if os.geteuid() or not shutil.which("setpriv") or not shutil.which("prlimit"):
+            self.skipTest("no room for a process, as it needs root, setpriv and prlimit")
+        self.folder.chmod(0o755)
+        user, alone = str(100_000 + os.getpid()), self.folder / "alone"
+        shutil.copy(TOOLS / "dwg-json", alone)
+        for data, told in ((made.made(3), b""), (b"", b"%s: there is no room for a process\n"), (b"said\n", b"%s: there is no room for a process\n")):
+            error = self.folder / "error"
+            error.write_bytes(data)
+            error.chmod(0o666)
+            with error.open("ab") as file:
+                words = ["setpriv", f"--reuid={user}", "--clear-groups", "prlimit", "--nproc=1", alone, "--version"]
+                ran = subprocess.run(words, stdout=subprocess.PIPE, stderr=file, check=False)
+            said = told.replace(b"%s", os.fsencode(alone))
+            # (dash ends with 2 where it can make no process, and bash with 254)
+            self.assertEqual((ran.returncode in (2, 254), ran.stdout, error.read_bytes()), (True, b"", data + said))
 
     def test_what_is_open_stays_open(self) -> None:
         """By whatever number, also where standard error is a file."""
