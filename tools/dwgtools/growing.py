@@ -617,8 +617,9 @@ def recover_tree(options: argparse.Namespace) -> int:
         table = grow_all(plan, grower, progress, options)
     finally:
         log.close()
+        # (whatever ends the run: the next one tells of its own alone)
+        tell_replacing(sorted(grower.replacing, key=os.fsencode))
     tell_left(plan, log, options)
-    tell_replacing(sorted(grower.replacing, key=os.fsencode))
     if not options.quiet:
         said = ", ".join(f"{count} {outcome}" for outcome, count in sorted(table.counts.items(), key=lambda item: -item[1]))
         tell(f"{len(plan)} files: {said}")

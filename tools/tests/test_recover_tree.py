@@ -1089,6 +1089,34 @@ class Resumed(Tree):
                 path.unlink()
             self.assertEqual(tree_of(self.out), expected)
 
+    def test_what_takes_the_place_of_others_is_told_whatever_ends_the_run(self) -> None:
+        """The next one tells of its own alone."""
+        shutil.rmtree(self.plans)
+        self.plans.mkdir()
+        for name in range(9):
+            (self.plans / f"{name}.dwg").write_bytes(older(drawn(9, name)))
+        self.grown(1, self.plans)
+        before = tree_of(self.out)
+        for turn, (number, status) in enumerate(((signal.SIGINT, 130), (signal.SIGTERM, 143), (None, 141)), 2):
+            for name in range(9):
+                (self.plans / f"{name}.dwg").write_bytes(older(drawn(9, name + 10 * turn)))
+            with self.begun("--jobs", 1) as started:
+                assert started.stdout is not None and started.stderr is not None
+                for _ in range(turn):
+                    started.stdout.readline()
+                if number is None:
+                    started.stdout.close()
+                else:
+                    started.send_signal(number)
+                said = started.stderr.read().decode()
+            now = tree_of(self.out)
+            others = [name for name, data in now.items() if name.endswith(b".dwg") and data != before[name]]
+            told = "an output took the place of another" if len(others) == 1 else f"{len(others)} outputs took the place of others"
+            self.assertTrue(others and f"dwg-recover: {told}, of another content" in said, (len(others), said))
+            # (a run that is about to end may end by itself)
+            self.assertIn(started.returncode, (status, 1))
+            before = now
+
     # Kills the tool outright at a turn of the calls by which files take their names, before or after one.
     KILLED = """
 import os, signal
