@@ -214,6 +214,9 @@ def planned(found: Iterable[Named], kept: Kept) -> Tuple[List[Named], List[Row]]
         if name not in seen and not (name in kept and is_away(one.path) or name in kept.without and kept.is_lost(name)):
             seen.add(name)
             plan.append(one)
+    kept.meet(seen)
+    for name in kept.doubles():
+        kept.forget(name)
     # (a folder that couldn't be read has a line too)
     rest = sorted({*kept, *(name for name in kept.without if kept.is_lost(name) or not os.path.isdir(name))} - seen, key=os.fsencode)
     gone = {name for name in rest if kept.is_lost(name)}

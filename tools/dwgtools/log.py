@@ -19,7 +19,7 @@ from .escapes import one_line
 from .file import Picture, Preview
 from .inputs import pieces_of
 from .log_lines import HEAD, LONGEST, MOST_NUMBER, Maker, NoLine, is_begin_of_log, is_number, line_of_log, take_lines
-from .log_names import Names, Places, is_away, is_gone, is_name, is_taken, names_of_words, placed, top_of
+from .log_names import Names, Places, is_away, is_gone, is_name, is_taken, names_of_words, placed, respelled, top_of
 from .notes import Refusal
 from .program import program_file
 from .rows import RULES, VERDICTS, Row, as_object
@@ -27,8 +27,8 @@ from .signals import uninterrupted
 from .statuses import Exit, ToolError
 from .streams import tell
 from .versions import LIMIT
-from .walking import Place, Walk, below, is_called_drawing, place_of
-from .whole_names import MOST_NAME, absolute_name, spelled_name
+from .walking import Named, Place, Walk, below, is_called_drawing, place_of
+from .whole_names import MOST_NAME, absolute_name, reached, spelled_name
 
 Key = Tuple[str, int, int]
 
@@ -71,9 +71,9 @@ def nearest_folders(folders: Iterable[str]) -> Dict[str, Optional[str]]:
     found: Dict[str, Optional[str]] = {}
     for folder in folders:
         passed: List[str] = []
-        while folder not in found and not os.path.isdir(folder):
+        while folder not in found and not os.path.isdir(reached(folder)):
             passed.append(folder)
-            if os.path.islink(folder) or folder == os.path.dirname(folder):
+            if os.path.islink(reached(folder)) or folder == os.path.dirname(folder):
                 found[folder] = None
             else:
                 folder = os.path.dirname(folder)
@@ -86,7 +86,7 @@ def inner_folders(folder: str, own: Collection[Place]) -> Optional[List[str]]:
     """The folders in a folder, none of one that can't be read; None where it has a regular file, whatever that is called. What is the run's own is
     neither."""
     inner = []
-    with contextlib.suppress(OSError), os.scandir(folder) as entries:
+    with contextlib.suppress(OSError), os.scandir(reached(folder)) as entries:
         for entry in entries:
             is_file = entry.is_file(follow_symlinks=False)
             if not is_file and not entry.is_dir(follow_symlinks=False) or place_of(entry.stat(follow_symlinks=False)) in own:
@@ -138,6 +138,8 @@ class Contents(Dict[str, Row]):
     def __init__(self) -> None:
         super().__init__()
         self.without: Dict[str, Row] = {}
+        # Names that stand for such as were met, by letter case alone.
+        self._respelled: Dict[str, str] = {}
 
     def take(self, absolute: str, row: Row) -> None:
         """Takes a line of LOG."""
@@ -153,8 +155,18 @@ class Contents(Dict[str, Row]):
         """Whether it has anything of a file."""
         return absolute in self or absolute in self.without
 
+    def meet(self, met: Set[str]) -> None:
+        """Takes note of the names under which files were met; nothing is at one that stands for another of these."""
+        self._respelled = respelled({*self, *self.without} - met, met)
+
+    def doubles(self) -> List[str]:
+        """The names that stand for others of which it has the same content."""
+        return [name for name, now in self._respelled.items() if name in self and now in self and content_of(self[name]) == content_of(self[now])]
+
     def is_lost(self, absolute: str) -> bool:
         """Whether no file is there any more; of what could never be read, as a folder, whether anything is."""
+        if absolute in self._respelled:
+            return True
         row = self.without.get(absolute)
         return is_away(absolute) if row is None or row.bytes is not None else is_gone(absolute)
 
@@ -508,15 +520,23 @@ class Log:
         names = [os.path.join(word, below(place, top)).rstrip(os.sep) or os.sep for word in self._tops.get(top, ())]
         return spelled if spelled in names else min(names, default=spelled)
 
-    def moved(self, gone: Iterable[str]) -> List[str]:
-        """Those of the files that are gone, of each of which the content was found under a new name."""
-        left, found = collections.Counter(map(content_of, self._new.values())), []
+    def meet(self, found: Iterable[Named]) -> None:
+        """Takes note of the files that the words name."""
+        self._before.meet({self.name_of(one.path) for one in found})
+
+    def is_lost(self, name: str) -> bool:
+        """Whether nothing is at a name any more of which it had the file when the run began."""
+        return self._before.is_lost(name)
+
+    def moved(self, gone: Collection[str]) -> List[str]:
+        """Those of the files that are gone, of each of which the content was found under a new name, or LOG has it by another of other letter case."""
+        left, found = collections.Counter(map(content_of, self._new.values())), {*self._before.doubles()}
         for name in gone:
-            content = content_of(self._before[name]) if name in self._before else None
+            content = content_of(self._before[name]) if name in self._before and name not in found else None
             if content is not None and left[content]:
                 left[content] -= 1
-                found.append(name)
-        return found
+                found.add(name)
+        return [name for name in gone if name in found]
 
     def gone(self, words: Iterable[str], walk: Walk) -> List[str]:
         """The names of LOG at which no file is any more, which the words named or which stand below these, in their order. Of what the walk leaves out
@@ -547,7 +567,7 @@ class Log:
         """Has LOG have files no more, by no name."""
         for name in sorted(one for name in names for one in (name, *self._also.get(name, ()))):
             self._before.forget(name)
-            self.add_line(name, Forgotten(name, "unreadable", GONE))
+            self.add_line(name, Forgotten(reached(name), "unreadable", GONE))
 
     def kept(self, row: Row, before: Tuple[str, str]) -> Row:
         """The line of a file that was looked at, kept in LOG: `changed` where its first content of this size and time was another. Of one whose name or

@@ -4,17 +4,17 @@ from __future__ import annotations
 
 import os
 import stat
-from typing import Any, Collection, Dict, Iterable, List, Optional, Set, Tuple
+from typing import Any, Collection, Dict, FrozenSet, Iterable, List, Optional, Set, Tuple
 
 from .log_lines import Maker
 from .walking import Walk
-from .whole_names import absolute_name, spelled_name
+from .whole_names import absolute_name, reached, spelled_name
 
 
 def is_gone(path: str) -> bool:
     """Whether nothing has a name, as the system says; one of which it says nothing isn't gone."""
     try:
-        os.lstat(path)
+        os.lstat(reached(path))
     except (FileNotFoundError, NotADirectoryError):
         return True
     except (OSError, ValueError):
@@ -26,7 +26,7 @@ def is_away(path: str) -> bool:
     """Whether no file has a name that one had: nothing has it, or a folder or what else is no file. (A link that leads to nothing may lead there
     again.)"""
     try:
-        return not stat.S_ISREG(os.stat(path).st_mode)
+        return not stat.S_ISREG(os.stat(reached(path)).st_mode)
     except (OSError, ValueError):
         return is_gone(path)
 
@@ -69,6 +69,53 @@ def is_taken(path: str, near: str, tops: Set[str], walk: Walk) -> bool:
         above = os.path.dirname(near)
         near = top_of(above, tops) if above != near else ""
     return bool(near)
+
+
+# Of so many names that were met, which differ by letter case alone, it is asked whether a name is another spelling of one.
+MOST_SPELLINGS = 8
+
+
+def respelled(left: Set[str], met: Iterable[str]) -> Dict[str, str]:
+    """Those of some names that stand for one which was met, each with that: a file system that doesn't tell names apart by letter case has given a
+    file or a folder another name by that alone, and finds it by the old one all the same."""
+    alike: Dict[str, List[str]] = {name.casefold(): [] for name in left}
+    for name in met:
+        names = alike.get(name.casefold())
+        if names is not None and len(names) < MOST_SPELLINGS:
+            names.append(name)
+    lists, found = Lists(), {}
+    for name in left:
+        now = next((one for one in alike[name.casefold()] if lists.has_other(name, one)), None)
+        if now is not None:
+            found[name] = now
+    return found
+
+
+class Lists:
+    """The names that folders list."""
+
+    def __init__(self) -> None:
+        self._names: Dict[str, FrozenSet[str]] = {}
+
+    def has_other(self, name: str, one: str) -> bool:
+        """Whether something is found by a name that its folder, or one that this stands in, lists as it is in another."""
+        if is_gone(name):
+            return False
+        folder = os.sep
+        for own, other in zip(name.split(os.sep), one.split(os.sep)):
+            if own != other and own not in self._of(folder) and other in self._of(folder):
+                return True
+            folder = os.path.join(folder, own)
+        return False
+
+    def _of(self, folder: str) -> FrozenSet[str]:
+        """The names in a folder, none where that can't be read."""
+        if folder not in self._names:
+            try:
+                self._names[folder] = frozenset(os.listdir(folder))
+            except OSError:
+                self._names[folder] = frozenset()
+        return self._names[folder]
 
 
 class Places:

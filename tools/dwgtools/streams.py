@@ -15,6 +15,7 @@ from typing import Any, Iterator, List, Optional, Sequence, Union
 from .escapes import one_line, one_message
 from .statuses import Exit, ToolError
 from .versions import MOST_HEADER
+from .whole_names import absolute_name
 
 
 class Patient(io.FileIO):
@@ -187,7 +188,7 @@ FOLDER, ENDING = ".certificates", ".cert"
 
 def hush_where_named(words: Sequence[str]) -> None:
     """Says nothing more where standard error is a file that the words or DWG may name, a drawing in a folder that they name, or a certificate of LOG."""
-    own, path = _stream_file(2), os.path.realpath("/dev/fd/2")
+    own, path = _stream_file(2), absolute_name("/dev/fd/2")
     if own is None:
         return
     names = [as_file(name) for word in (*words, os.environ.get("DWG", "")) for name in _names_in(word)]

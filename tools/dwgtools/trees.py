@@ -10,15 +10,15 @@ import os
 import stat
 import unicodedata
 from dataclasses import dataclass
-from typing import Dict, Iterable, Iterator, List, Optional, Set, Tuple
+from typing import Dict, Iterable, Iterator, List, Optional, Sequence, Set, Tuple
 
 from .escapes import one_line
-from .log_names import is_away
+from .log_names import is_away, respelled
 from .outputs import is_listed
 from .statuses import Exit, ToolError
 from .streams import as_file, is_one_file, is_standard, outputs, refuse_streams
 from .walking import Named, Walk, below, status_of, walk_of, walked
-from .whole_names import absolute_name
+from .whole_names import absolute_name, spelled_name
 
 # The name of LOG below OUT.
 LOG_NAME = "dwg-recover.log"
@@ -168,14 +168,17 @@ def is_passed(word: str, rest: str) -> bool:
     return is_away(path) or absolute_name(path) != os.path.join(absolute_name(word), rest)
 
 
-def left_behind(found: Iterable[Planned], written: Iterable[str], options: argparse.Namespace) -> Iterator[str]:
+def left_behind(found: Sequence[Planned], written: Iterable[str], options: argparse.Namespace) -> Iterator[str]:
     """The names below OUT, of those that runs wrote, that stand in the folders of this one, whose files aren't in these any more: no line of the table
     is theirs."""
     names = {one.name for one in found}
     words = {name_of_word(word): word for word in options.files if os.path.isdir(word)}
-    for name in sorted(written):
-        top, _, rest = name.partition(os.sep)
-        if name not in names and top in words and os.path.lexists(os.path.join(options.tree, name)) and is_passed(words[top], rest):
+    left = {name: name.partition(os.sep) for name in written if name not in names}
+    paths = {name: spelled_name(os.path.join(words[top], rest)) for name, (top, _, rest) in left.items() if top in words}
+    others = respelled({*paths.values()}, (spelled_name(one.path) for one in found)) if paths else {}
+    for name in sorted(paths):
+        top, _, rest = left[name]
+        if os.path.lexists(os.path.join(options.tree, name)) and (paths[name] in others or is_passed(words[top], rest)):
             yield name
 
 

@@ -84,6 +84,14 @@ def _working_folder() -> str:
         return os.curdir
 
 
+def reached(name: str) -> str:
+    """By what the system finds what has a whole name: where that is longer than any that it takes, from the working folder, below which it may stand."""
+    if len(os.fsencode(name)) <= MOST_NAME:
+        return name
+    here = os.path.join(_working_folder(), "")
+    return name[len(here) :] or os.curdir if os.path.join(name, "").startswith(here) else name
+
+
 def spelled_name(path: str) -> str:
     """The whole name of a file as it is spelled: links in it aren't gone through, but for those before the last `..`, which leads up from there. What
     a process has open is another file each time, and is called as that is."""

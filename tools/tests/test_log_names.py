@@ -34,6 +34,16 @@ made.needs_program()
 DATA = {"a.dwg": made.made(3), "b.dwg": made.made(4), "c.dwg": made.made(5)}
 
 
+# Runs a tool in a folder whose whole name is longer than any by which the system finds one.
+IN_DEEP_FOLDER = """
+import os, subprocess, sys
+for _ in range(25):
+    os.makedirs("d" * 200, exist_ok=True)
+    os.chdir("d" * 200)
+sys.exit(subprocess.run(sys.argv[1:]).returncode)
+"""
+
+
 def rot(path: pathlib.Path) -> None:
     """Has a file have another content, and the size and the time that it had."""
     told = os.stat(path)
@@ -959,6 +969,59 @@ class Names(common.InFolder):
             os.utime(path, ns=(10**18, 10**18))
             self.assertIn(b"1 unread", (run(), run())[1].stderr)
 
+    def without_name(self, hidden: str, *words: str) -> Tuple[int, List[str], List[str]]:
+        """The status of a run with LOG where a name isn't listed, the lines of its table, and what it tells."""
+        ran = common.without_name(hidden, self.folder, "dwg-check", "--quiet", "--fixity", self.log, *words)
+        told = ran.stderr.decode().replace(f"dwg-check: {self.log}: ", "").replace(f"{self.folder}/", "")
+        return ran.returncode, [" ".join(line.split("\t")[:3]).strip() for line in ran.stdout.decode().splitlines()[1:]], told.splitlines()
+
+    def test_a_name_that_is_another_by_letter_case_alone(self) -> None:
+        """Where the file system doesn't tell it from the one that the file had, by which it is found all the same."""
+        for before, now, hidden in (("d/Plan.dwg", "d/plan.dwg", "Plan.dwg"), ("d/p/x.dwg", "d/P/x.dwg", "p")):
+            old, new = self.folder / before, self.folder / now
+            for is_edited in (False, True):
+                shutil.rmtree(self.folder / "d", ignore_errors=True)
+                self.begin_anew()
+                for path in (old, new):
+                    path.parent.mkdir(parents=True, exist_ok=True)
+                old.write_bytes(DATA["a.dwg"])
+                self.without_name("", "d")
+                os.link(old, new)
+                if is_edited:
+                    new.write_bytes(DATA["b.dwg"])
+                    self.assertEqual(self.without_name(hidden, "--verify", "d")[:2], (68, [f"{now} new sound", f"{before} missing"]))
+                    for _ in range(2):
+                        self.assertEqual(self.without_name(hidden, "d")[2], [f"1 of its files are gone, which it keeps (--forget has it forget them); the first is {before}"])
+                    self.assertEqual(self.without_name(hidden, "--verify", "d")[:2], (68, [f"{now} same", f"{before} missing"]))
+                    self.assertEqual(self.without_name(hidden, "--forget", "d")[2], [f"1 of its files are gone, and it has them no more; the first is {before}"])
+                else:
+                    self.assertEqual(self.without_name(hidden, "--verify", "d"), (0, [f"{now} moved {before} -> {now}"], []))
+                    self.assertEqual(self.without_name(hidden, "d")[2], [f"1 of its files have other names now; the first is {before}"])
+                new.write_bytes(DATA["c.dwg"])
+                self.without_name(hidden, "d")
+                self.assertEqual(self.without_name(hidden, "--verify", "d"), (0, [f"{now} same"], []))
+                self.assertEqual(self.without_name(hidden, "--verify"), (0, [f"{now} same"], []))
+
+    def test_a_name_of_log_beside_the_one_that_its_folder_lists(self) -> None:
+        """Of the same content, as where the words were spelled otherwise, it stands for nothing."""
+        volume = self.volume("d", "a.dwg")
+        os.link(volume / "a.dwg", volume / "A.dwg")
+        self.keep(volume)
+        self.assertEqual(self.without_name("A.dwg", "--verify", "d"), (0, ["d/a.dwg same"], []))
+        self.assertEqual(self.without_name("A.dwg", "d")[2], ["1 of its files have other names now; the first is d/A.dwg"])
+        self.assertEqual(self.without_name("", "--verify")[:2], (0, [f"{volume}/a.dwg same"]))
+
+    def test_names_that_are_others_by_letter_case(self) -> None:
+        """Where a folder lists both each is a file of its own."""
+        volume = self.volume("d", *DATA)
+        for name, path in (("A.dwg", "a.dwg"), ("B.dwg", "b.dwg")):
+            os.link(volume / path, volume / name)
+        self.keep(volume)
+        self.assertEqual(self.compare("--exclude", "[A-Z]*", volume), (0, {f"d/{name}": "same" for name in ("A.dwg", "B.dwg", *DATA)}))
+        self.assertEqual(self.keep("--exclude", "[a-z].dwg", "--forget", volume), [])
+        (volume / "a.dwg").unlink()
+        self.assertEqual(self.compare(volume), (68, {"d/a.dwg": "missing", **{f"d/{name}": "same" for name in ("A.dwg", "B.dwg", "b.dwg", "c.dwg")}}))
+
     def test_names_that_no_file_can_have_take_no_time_in_log(self) -> None:
         long = "a/" * 32000 + "x.dwg"
         ran = tool("dwg-check", "--quiet", "--resume", self.log, "-", given=f"{long}\n".encode() * 3)
@@ -969,6 +1032,27 @@ class Names(common.InFolder):
         with unittest.mock.patch("os.lstat", side_effect=AssertionError), unittest.mock.patch("os.readlink", side_effect=AssertionError):
             self.assertEqual(log.name_of(f"/{long}"), f"/{long}")
         log.close()
+
+    def test_names_by_which_the_system_finds_nothing(self) -> None:
+        """What is gone or moved is told where the words find it otherwise, and standard error may be such a file."""
+
+        def run(*words: object, said: int = 0) -> Tuple[int, List[str]]:
+            # (who stands in the place of python3 may know no such folder)
+            environment = {**os.environ, "DWG": made.PROGRAM, "PATH": os.pathsep.join([os.path.dirname(sys.executable), os.environ["PATH"]])}
+            ran = subprocess.run([sys.executable, "-c", IN_DEEP_FOLDER, *map(str, words)], cwd=self.folder, env=environment, check=False, capture_output=True)
+            self.assertEqual((ran.stderr.count(b"1 of its files "), ran.stderr.count(b"\n")), (said, said), ran.stderr)
+            return ran.returncode, [" ".join(line.split("\t")[:2]) for line in ran.stdout.decode().splitlines()[1:]]
+
+        check = [TOOLS / "dwg-check", "--quiet", "--fixity", self.log]
+        for name, data in DATA.items():
+            drawing = self.file(f"of {name}", data)
+            self.assertEqual(run("cp", drawing, name)[0], 0)
+        self.assertEqual(run(*check, "."), (0, ["./a.dwg sound", "./b.dwg sound", "./c.dwg sound"]))
+        self.assertEqual((run("rm", "a.dwg")[0], run("mv", "b.dwg", "x.dwg")[0]), (0, 0))
+        self.assertEqual(run(*check, "--verify", "."), (68, ["./c.dwg same", "./x.dwg moved", "./a.dwg missing"]))
+        self.assertEqual(run(*check, "--forget", ".", said=2)[0], 0)
+        self.assertEqual(run(*check, "--verify", "."), (0, ["./c.dwg same", "./x.dwg same"]))
+        self.assertEqual(run("sh", "-c", '"$0" --quiet . 2>said', TOOLS / "dwg-check")[0], 0)
 
     def test_the_name_of_one_certificate_keeps_no_other_away(self) -> None:
         volume = self.volume("d", *DATA)

@@ -1986,6 +1986,16 @@ class Replaced(Tree):
             self.assertIn("is there already, and isn't what a run left there", row["detail"])
             path.unlink()
 
+    def test_a_file_that_has_another_name_by_letter_case_alone(self) -> None:
+        """On a file system that finds it by the old one all the same: nothing is there any more that the old output is of."""
+        old, new = self.plans / "PLAN.dwg", self.plans / "plan.dwg"
+        old.write_bytes(older(drawn(9, 1)))
+        self.grown(1, self.plans)
+        os.link(old, new)
+        for hidden, left in (("PLAN.dwg", [f"dwg-recover: an output stands whose file isn't there any more: {self.out}/plans/PLAN.dwg"]), ("", [])):
+            ran = common.without_name(hidden, self.folder, "dwg-recover", "--quiet", "--tree", self.out, "plans")
+            self.assertEqual((ran.returncode, ran.stderr.decode().splitlines()), (1, left))
+
     def test_outputs_of_one_run_replace_each_other_not(self) -> None:
         """A file system may take two names for one, or somebody gives one the name of the other meanwhile."""
         for name in ("a.dwg", "b.dwg"):
