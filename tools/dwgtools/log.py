@@ -357,7 +357,10 @@ class Log:
         for word in filter(os.path.isdir, words):
             self._tops.setdefault(absolute_name(word), []).append(spelled_name(word))
         self._file.seek(0)
-        read = take_lines(seen.readline, lambda told, maker: self.take_line(told, maker, maker == own), self.name, self._tell)
+        try:
+            read = take_lines(seen.readline, lambda told, maker: self.take_line(told, maker, maker == own), self.name, self._tell)
+        except OSError as fault:
+            raise ToolError(f"{self.name}: {fault.strerror}", Exit.FAILURE) from None
         self._seen = seen
         for name, stands in self._names_of.further.idle(self._before).items():
             self._before.forget(name)

@@ -206,6 +206,14 @@ class Lines(unittest.TestCase):
             self.open()
         self.assertEqual(refused.exception.status, int(Exit.FAILURE))
 
+    def test_a_disk_that_log_cannot_be_read_from(self) -> None:
+        """Nothing is looked at, and it is told which file that is."""
+        self.kept()
+        why = os.strerror(errno.EIO)
+        with unittest.mock.patch("dwgtools.log.Seen.readline", side_effect=OSError(errno.EIO, why)), self.assertRaises(ToolError) as refused:
+            self.open()
+        self.assertEqual((str(refused.exception), refused.exception.status), (f"{self.log}: {why}", int(Exit.FAILURE)))
+
     def test_a_run_with_a_disk_that_is_full_before_the_head(self) -> None:
         """All files are checked, and the table is whole; the status is that of any LOG that can't be written."""
         (self.folder / "d").mkdir()
