@@ -700,7 +700,7 @@ def refuse_file(file: IO[bytes], name: str, lock: int) -> None:
         tell(f"{name} can't be locked ({fault.strerror}); let no other run write into it")
     first = file.readline(LONGEST)
     if first and not is_begin_of_log(first):
-        raise ToolError(f"{name} is there, and doesn't begin as a log of this form does; name a file that isn't there", Exit.EXISTS)
+        raise ToolError(f"{name} is there, and doesn't begin as a log of this form does; move it away, or name another", Exit.EXISTS)
 
 
 def open_log(path: str, is_only_read: bool = False, mode: int = 0o666) -> IO[bytes]:

@@ -268,7 +268,7 @@ class Install(unittest.TestCase):
         self.assertEqual((self.goes("uninstall").returncode, sorted(str(path.relative_to(self.top)) for path in self.top.rglob("*"))), (0, there))
 
     def test_the_mask_of_modes_closes_nothing(self) -> None:
-        words = ["make", "-s", f"PREFIX={self.top}", "DWG=true", f"PROGRAM={self.program}", "install"]
+        words = ["make", "-s", f"PREFIX={self.top}/a/b", "DWG=true", f"PROGRAM={self.program}", "install"]
         subprocess.run(words, cwd=TOP, check=True, preexec_fn=lambda: os.umask(0o077))
         modes = {stat.S_IMODE(path.stat().st_mode) for path in [self.top, *self.top.rglob("*")]}
         self.assertEqual(modes, {0o755, 0o644})
