@@ -4,11 +4,11 @@ from __future__ import annotations
 
 import os
 import stat
-from typing import Any, Collection, Dict, FrozenSet, Iterable, List, Optional, Set, Tuple
+from typing import Any, Collection, Dict, Iterable, List, Optional, Set, Tuple
 
 from .log_lines import Maker
 from .walking import Walk
-from .whole_names import absolute_name, reached, spelled_name
+from .whole_names import Listings, absolute_name, reached, spelled_name
 
 
 def is_gone(path: str) -> bool:
@@ -83,39 +83,25 @@ def respelled(left: Set[str], met: Iterable[str]) -> Dict[str, str]:
         names = alike.get(name.casefold())
         if names is not None and len(names) < MOST_SPELLINGS:
             names.append(name)
-    lists, found = Lists(), {}
+    listings, found = Listings(), {}
     for name in left:
-        now = next((one for one in alike[name.casefold()] if lists.has_other(name, one)), None)
+        now = next((one for one in alike[name.casefold()] if is_respelled(name, one, listings)), None)
         if now is not None:
             found[name] = now
     return found
 
 
-class Lists:
-    """The names that folders list."""
-
-    def __init__(self) -> None:
-        self._names: Dict[str, FrozenSet[str]] = {}
-
-    def has_other(self, name: str, one: str) -> bool:
-        """Whether something is found by a name that its folder, or one that this stands in, lists as it is in another."""
-        if is_gone(name):
-            return False
-        folder = os.sep
-        for own, other in zip(name.split(os.sep), one.split(os.sep)):
-            if own != other and own not in self._of(folder) and other in self._of(folder):
-                return True
-            folder = os.path.join(folder, own)
+def is_respelled(name: str, one: str, listings: Listings) -> bool:
+    """Whether something is found by a name of which a folder on the way lists a part as it is spelled in another, and not in this one."""
+    if is_gone(name):
         return False
-
-    def _of(self, folder: str) -> FrozenSet[str]:
-        """The names in a folder, none where that can't be read."""
-        if folder not in self._names:
-            try:
-                self._names[folder] = frozenset(os.listdir(folder))
-            except OSError:
-                self._names[folder] = frozenset()
-        return self._names[folder]
+    folder = os.sep
+    for own, other in zip(name.split(os.sep), one.split(os.sep)):
+        path = os.path.join(folder, own)
+        if own != other and not listings.have(path) and listings.have(os.path.join(folder, other)):
+            return True
+        folder = path
+    return False
 
 
 class Places:

@@ -16,6 +16,7 @@ from .escapes import one_line
 from .signals import uninterrupted
 from .statuses import Exit, Status, ToolError
 from .streams import is_one_file, is_standard, output_name, refuse_streams, status_at, tell
+from .whole_names import Listings
 
 # Files that were begun and don't have their name yet, each by its folder's descriptor and its name there, with what it is called in messages:
 # what an interrupt leaves of them, the end of the tool removes.
@@ -466,17 +467,8 @@ def refuse_output(path: Optional[str], force: bool, sources: Sequence[Optional[s
         raise ToolError(f"{name} is there already; --force replaces it", Exit.EXISTS)
     if not stat.S_ISREG(found.st_mode):
         raise ToolError(f"{name} is no regular file, and --force replaces no other", Exit.EXISTS)
-    if not is_listed(path):
+    if not Listings().have(path):
         raise ToolError(f"{name} is there by another name, which --force doesn't replace", Exit.EXISTS)
-
-
-def is_listed(path: str) -> bool:
-    """Whether a folder has a name as it is spelled: a file system may take it for one that differs, as by small letters; a folder that can't be read
-    is believed."""
-    try:
-        return os.path.basename(path) in os.listdir(os.path.dirname(path) or os.curdir)
-    except OSError:
-        return True
 
 
 @contextlib.contextmanager

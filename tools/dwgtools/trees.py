@@ -14,11 +14,10 @@ from typing import Dict, Iterable, Iterator, List, Optional, Sequence, Set, Tupl
 
 from .escapes import one_line
 from .log_names import is_away, respelled
-from .outputs import is_listed
 from .statuses import Exit, ToolError
 from .streams import as_file, is_one_file, is_standard, outputs, refuse_streams
 from .walking import Named, Walk, below, status_of, walk_of, walked
-from .whole_names import absolute_name, spelled_name
+from .whole_names import Listings, absolute_name, spelled_name
 
 # The name of LOG below OUT.
 LOG_NAME = "dwg-recover.log"
@@ -145,7 +144,7 @@ def alike(found: Iterable[Planned]) -> Set[str]:
 
 def is_spelled_so(out: str, name: str) -> bool:
     """Whether what stands below OUT has its name as it is spelled, and so have the folders that it stands in."""
-    return all(is_listed(os.path.join(out, part)) for part in (name, *folders_of(name)))
+    return all(map(Listings().have, (os.path.join(out, part) for part in (name, *folders_of(name)))))
 
 
 def planned(options: argparse.Namespace) -> List[Planned]:

@@ -3,7 +3,7 @@
 from __future__ import annotations
 
 import os
-from typing import Dict, Optional, Tuple
+from typing import Dict, FrozenSet, Optional, Tuple
 
 # No system finds a file by a name of more bytes.
 MOST_NAME = 4095
@@ -90,6 +90,25 @@ def reached(name: str) -> str:
         return name
     here = os.path.join(_working_folder(), "")
     return name[len(here) :] or os.curdir if os.path.join(name, "").startswith(here) else name
+
+
+class Listings:
+    """What folders list, each as it was when it was asked for first."""
+
+    def __init__(self) -> None:
+        self._names: Dict[str, Optional[FrozenSet[str]]] = {}
+
+    def have(self, path: str) -> bool:
+        """Whether a folder has a name as it is spelled: a file system may take it for one that differs, as by small letters; a folder that can't be read
+        is believed."""
+        folder, last = os.path.split(path)
+        if folder not in self._names:
+            try:
+                self._names[folder] = frozenset(os.listdir(folder or os.curdir))
+            except OSError:
+                self._names[folder] = None
+        names = self._names[folder]
+        return names is None or last in names
 
 
 def spelled_name(path: str) -> str:

@@ -587,6 +587,11 @@ class Signals(Checked):
             said = told.replace(b"%s", os.fsencode(alone))
             # (dash ends with 2 where it can make no process, and bash with 254)
             self.assertEqual((ran.returncode in (2, 254), ran.stdout, error.read_bytes()), (True, b"", data + said))
+        # (where its first line is without end nothing is said, and nobody waits)
+        with error.open("wb") as file:
+            file.truncate(1 << 38)
+            ran = subprocess.run(words, stdout=subprocess.PIPE, stderr=file, check=False, timeout=60)
+        self.assertEqual((ran.returncode, ran.stdout, error.stat().st_size), (-signal.SIGKILL, b"", 1 << 38))
 
     def test_what_is_open_stays_open(self) -> None:
         """By whatever number, also where standard error is a file."""
