@@ -5,4 +5,5 @@ mod certificates;
 mod commands;
 mod hostile;
 mod inputs;
+mod large;
 mod runs;

@@ -1,10 +1,8 @@
 //! The program over devices in memory: its words, its statuses, and each of its commands.
 
 use crate::tests::inputs::input_of;
-use crate::tests::runs::{
-    Answers, Devices, PLENTY, ran, report_in_pieces, report_left, wanted_of, written,
-};
-use dwg_base::{LIMIT, Refusal};
+use crate::tests::runs::{Answers, Devices, PLENTY, ran, report_in_pieces, report_left, wanted_of};
+use dwg_base::Refusal;
 use dwg_commands::Status;
 use dwg_testkit::{Case, Line, Report, hold};
 use std::test::Fail;
@@ -75,21 +73,6 @@ fn answers_each_command(rt: HostRuntime) -> Result<(), Fail> {
         dwg certify | smallest | - | dwg: not sound | Found
         dwg carry | one_object | file one_object | - | Done";
     hold::<Answers>(rt.alloc(), cases)
-}
-
-#[test]
-fn makes_the_largest_drawing(rt: HostRuntime) -> Result<(), Fail> {
-    let many = written(rt.alloc(), "dwg make 200000 1", &[], LIMIT as usize).ok_or("no drawing")?;
-    assert!(rt; many.as_slice().starts_with(b"AC1015"));
-    Ok(())
-}
-
-#[test]
-fn drills_the_largest_size(rt: HostRuntime) -> Result<(), Fail> {
-    let cases = "
-        dwg drill 200000 | 1000000 0 1000000 0 | nothing \
-            | drill 200000; objects 200029; bytes 11120301; check 0ADA; changed 5560150 objects 104807 at 5560103: check; findings 0 | - | Done";
-    hold::<OverDevices>(rt.alloc(), cases)
 }
 
 #[test]

@@ -131,7 +131,7 @@ pub(crate) fn written(alloc: Global, line: &str, bytes: &[u8], room: usize) -> O
 }
 
 /// Reports how a run ended: its name, with its numbers after it.
-fn report_status(status: &Status, report: &mut Report) {
+pub(crate) fn report_status(status: &Status, report: &mut Report) {
     match status {
         Status::Done => report.word("Done"),
         Status::Found => report.word("Found"),
