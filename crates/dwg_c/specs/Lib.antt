@@ -1,0 +1,4 @@
+-- What the contracts of the library for C cite.
+
+pub mod Answers
+pub mod Buffers
