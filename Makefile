@@ -20,19 +20,29 @@ ifneq ($(findstring $(line_end),$(value DESTDIR)$(value PREFIX)),)
 $(error DESTDIR and PREFIX may not have line ends)
 endif
 
-.PHONY: build test check-tools bench install uninstall
+.PHONY: build check test try-cases check-tools bench library install uninstall
 
 build:
 	DWG_BUILD=1 $(DWG) drill 1 >/dev/null
 
+# What the merge gate runs: test, try-cases, and what of check-tools needs no program that is built.
+check:
+	@tools/check-all
+
 test:
 	rt ci
+
+try-cases:
+	tools/try-cases
 
 check-tools:
 	tools/test
 
 bench:
 	bench/run
+
+library:
+	$(MAKE) -C library
 
 # The tool that installs: its goal, and where; it makes no folder of compiled modules here.
 installs = python3 -B -E -X utf8 tools/install $(1) $(call quoted,$(value PREFIX)) $(call quoted,$(value DESTDIR))

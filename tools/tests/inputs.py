@@ -10,6 +10,7 @@ from pathlib import Path
 from typing import Any, Dict, List, Optional, Tuple
 
 import writer
+from common import made_entities
 from made import dwg, made
 from spelled import base
 
@@ -207,6 +208,38 @@ def written(drawing: writer.Drawing) -> bytes:
     return File(drawing.version.encode() + drawing.lead, mark, variables, classes, frames=frames, sections=drawing.sections).data()
 
 
+# The numbers of the types of the entities in drawings that are made, and the fields that all of them have.
+TYPES = {"LINE": 19, "POINT": 27, "CIRCLE": 18, "ARC": 17, "TEXT": 1, "LWPOLYLINE": 77}
+USUAL = "mode 2; xdict 3.0; colour 256; linetype_scale 3FF0000000000000; linetype_flag 0; plotstyle_flag 0; invisible 0; lineweight 29; style 5.11"
+LAYERS = {"0": "5.10", "WALLS": "5.17"}
+
+
+def fields_of(body: Dict[str, Any]) -> Dict[str, str]:
+    """Fields as `show` prints them: numbers as words, and each list of a list by its index."""
+    found: Dict[str, str] = {}
+    for name, value in body.items():
+        if isinstance(value, list) and isinstance(value[0], list):
+            found.update(fields_of({f"{name}[{index}]": one for index, one in enumerate(value)}))
+        elif isinstance(value, list):
+            found[name] = " ".join(fields_of({"": one})[""] for one in value)
+        else:
+            found[name] = struct.pack(">d", value).hex().upper() if isinstance(value, float) else f'"{value}"' if isinstance(value, str) else str(value)
+    return found
+
+
+@lru_cache(maxsize=None)
+def made_alike(count: int, seed: int) -> bytes:
+    """The drawing that `make` makes of two numbers (docs/FORMAT.md), whose entities are spelled apart from the program."""
+    drawing = shown(made(1, 7))
+    objects = {handle: one for handle, one in drawing.objects.items() if handle < 0x31}
+    objects[0x18] = replace(objects[0x18], fields={**objects[0x18].fields, "ends.last": f"4.{0x30 + count:X}"})
+    usual = dict(pair.split(" ") for pair in USUAL.split("; "))
+    for handle, kind, layer, body in made_entities(count, seed):
+        objects[handle] = writer.Object(handle, kind, "typed", TYPES[kind], {**usual, "layer": LAYERS[layer], **fields_of(body)})
+    objects[0x30 + count].fields.update({"links.previous": f"4.{0x2F + count:X}", "links.next": "4.0"})
+    return written(replace(drawing, objects=objects))
+
+
 def value_of(text: str) -> bytes:
     """Bytes by a text: ASCII between quotation marks, or hexadecimal digits."""
     return text[1:-1].encode() if text.startswith('"') else bytes.fromhex(text)
@@ -345,7 +378,7 @@ def named(name: str) -> Input:
     if name.startswith("bytes/"):
         return Input(bytes.fromhex(name[6:]))
     if name.startswith("made/"):
-        return Input(made(*map(int, name[5:].split("/"))))
+        return Input(made_alike(*map(int, name[5:].split("/"))))
     if "*" in name:
         byte, count = name.split("*")
         return Input(bytes.fromhex(byte) * int(count))

@@ -15,7 +15,7 @@ import types
 import unittest
 from dataclasses import dataclass
 from functools import lru_cache
-from typing import Any, Dict, Iterable, List, Optional, Sequence, Tuple
+from typing import Dict, List, Optional, Sequence, Tuple
 
 TOP = pathlib.Path(__file__).resolve().parents[2]
 TOOLS = TOP / "tools"
@@ -23,10 +23,11 @@ DATA = TOP / "crates" / "dwg_cli" / "data"
 sys.path.insert(0, str(TOOLS))
 
 from by_format import check_word  # noqa: E402  pylint: disable=wrong-import-position
-from dwgtools.log_lines import line_of_log, read_log_line  # noqa: E402  pylint: disable=wrong-import-position
 from dwgtools.program import find_program  # noqa: E402  pylint: disable=wrong-import-position
 
 PROGRAM = os.path.realpath(find_program())
+# What gives recorded answers where no program is built, and the status with which it says that it has none.
+STAND_IN, UNRECORDED = str(TOP / "tools" / "tests" / "recorded" / "dwg"), 71
 # No test waits for answers without a proof.
 os.environ["DWG_PROVED_ONLY"] = "1"
 
@@ -60,8 +61,14 @@ def knows(command: str) -> bool:
 
 def needs_program() -> None:
     """Skips a test, or where a file of tests is read the whole file, if the program isn't built."""
-    if not is_built():
+    if PROGRAM == STAND_IN or not is_built():
         raise unittest.SkipTest("what needs the program, which isn't built (`make` proves and builds it)")
+
+
+def needs_answers() -> None:
+    """The same for tests that recorded answers are enough for; `recorded/record` asks the program what these ask."""
+    if PROGRAM != STAND_IN:
+        needs_program()
 
 
 @lru_cache(maxsize=None)
@@ -72,7 +79,10 @@ def made(count: int, seed: int = 7) -> bytes:
 
 def dwg(*words: str, given: bytes = b"") -> "subprocess.CompletedProcess[bytes]":
     """What the program answers."""
-    return subprocess.run([PROGRAM, *words], input=given, capture_output=True, check=False)
+    ran = subprocess.run([PROGRAM, *words], input=given, capture_output=True, check=False)
+    if ran.returncode == UNRECORDED:
+        raise unittest.SkipTest("answers that aren't recorded")
+    return ran
 
 
 def tool(name: str, *words: object, given: bytes = b"", **more: str) -> "subprocess.CompletedProcess[bytes]":
@@ -189,15 +199,3 @@ def unescaped(path: str) -> bytes:
             out.append(short[data[at + 1]])  # type: ignore[arg-type]
             at += 2
     return bytes(out)
-
-
-def read_log(path: pathlib.Path) -> List[Dict[str, Any]]:
-    """The objects of the lines of LOG, each of which has its sum."""
-    found = [read_log_line(line) for line in path.read_bytes().splitlines()]
-    assert all(has_sum for _, has_sum in found), found
-    return [told for told, _ in found]
-
-
-def log_of(told: Iterable[Dict[str, Any]]) -> bytes:
-    """LOG that has these lines, each with its sum."""
-    return b"".join(map(line_of_log, told))

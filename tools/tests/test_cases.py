@@ -3,99 +3,35 @@
 from __future__ import annotations
 
 import re
-import struct
 import unittest
 from concurrent.futures import ThreadPoolExecutor
-from dataclasses import dataclass, replace
-from typing import Dict, Iterator, List, Optional, Tuple
+from typing import Dict, List, Optional
 
 import inputs
 import made
 import older
 import spelled
+from case_lines import Case, Left, asked, cases_of, failure_of, is_text, no_case
 from made import DATA, TOP, dwg
-from spelled import base
 
 
 def setUpModule() -> None:
     made.needs_program()
 
 
-@dataclass(frozen=True)
-class Case:
-    """A case: its first line; command and input; and what must come."""
-
-    line: str
-    command: str
-    input: str
-    status: int
-    output: str
-    notes: str
-
-
-def unfolded(text: str) -> Iterator[str]:
-    """The lines of a text, each with those that continue it."""
-    return iter(re.sub(r"\\\n\s*", "", text).splitlines())
-
-
-def cases_of(text: str) -> List[Case]:
-    """The cases of a text."""
-    found: List[Case] = []
-    for line in unfolded(text):
-        if line.startswith("  "):
-            before = found[-1].output
-            found[-1] = replace(found[-1], output=before + "; " * bool(before) + line[2:])
-        elif line and not line.startswith("# "):
-            columns = line.split(" | ")
-            said = columns if " < " in columns[0] else columns[1:]
-            if len(said) not in (2, 3, 4) or not said[1].isdigit():
-                raise ValueError(f"no case: {line}")
-            asked, status, output, notes = (*said, *[""] * (4 - len(said)))
-            command, _, given = asked.partition(" < ")
-            found.append(Case(line, command, given, int(status), "" if output == "-" else output, notes))
-    return found
-
-
-def left_by(case: Case) -> Tuple[int, bytes, bytes]:
-    """What the program leaves; or, of words that are none of its own, what the input is, or what its certificate has."""
-    given = inputs.bytes_of(case.input)
-    if case.command == "spell":
-        return 0, given, b""
-    if case.command == "measure":
-        return 0, b"bytes %d\ncheck %04X\n" % (len(given), base.check(0xC0C1, given)), b""
-    if case.command == "entries":
-        certificate = dwg("certify", given=given).stdout
-        rows = "".join(f"{handle:X} {rank} {place}\n" for handle, rank, place in struct.iter_unpack("<QQQ", certificate[16:]))
-        return 0, certificate[:8] + f" {int.from_bytes(certificate[8:16], 'little')}\n{rows}".encode(), b""
-    ran = dwg(*case.command.split(), given=given)
+def left_by(case: Case) -> Optional[Left]:
+    """What the program leaves, where it is asked."""
+    words = asked(case)
+    if words is None:
+        return None
+    ran = dwg(*words, given=inputs.bytes_of(case.input))
     return ran.returncode, ran.stdout, ran.stderr
-
-
-def is_text(left: bytes, wanted: str) -> bool:
-    """Whether lines came as wanted; `...` is any lines."""
-    lines = [line.replace("00*256", "00" * 256) for line in wanted.split("; ")] if wanted else []
-    pattern = b"".join(b"(?s:.*\n)?" if line == "..." else re.escape(line.encode()) + b"\n" for line in lines)
-    return re.fullmatch(pattern, left) is not None
-
-
-def failure_of(case: Case) -> Optional[str]:
-    """What is wrong with what the program leaves, after the case's first line."""
-    try:
-        status, output, notes = left_by(case)
-        if case.output.startswith("= "):
-            is_output = output == inputs.bytes_of(case.output[2:])
-        else:
-            is_output = is_text(output, case.output)
-    except (ValueError, LookupError, AttributeError, TypeError) as error:
-        return f"{case.line}\n  no case: {error!r}"
-    wrong = [name for name, is_right in (("status", status == case.status), ("output", is_output), ("notes", is_text(notes, case.notes))) if not is_right]
-    return f"{case.line}\n  wrong {', '.join(wrong)}: {status}\n{output[:2000]!r}\n{notes[:2000]!r}" if wrong else None
 
 
 def failures_of(cases: List[Case]) -> List[str]:
     """The failures of cases, two of which run at a time."""
     with ThreadPoolExecutor(2) as pool:
-        return [failure for failure in pool.map(failure_of, cases) if failure]
+        return [failure for failure in pool.map(lambda case: no_case(case) or failure_of(case, left_by(case)), cases) if failure]
 
 
 class Cases(unittest.TestCase):
@@ -190,7 +126,7 @@ show < nothing | 3 | - | dwg: refused: header 0 at 0: short
         for said in ("C.owner", "C.nothing=1", "C.owner=4.0", "7.owner=4.0", "no=00", "C/word=000000", "C/body[0]=4A", "& no_file"):
             (failure,) = failures_of(cases_of(f"show < one_object {said} | 0"))
             self.assertTrue(failure.startswith(f"show < one_object {said} | 0\n  no case: "), failure)
-        for line in ("show < smallest", "show | 0", "show < smallest | yes", "show < smallest | 0 | - | - | -"):
+        for line in ("show < smallest", "show | 0", "show < smallest | yes", "what | show < smallest"):
             with self.assertRaisesRegex(ValueError, "no case: "):
                 cases_of(line)
 

@@ -197,7 +197,8 @@ class Speller:
 
     def length(self, path: str) -> int:
         """How many elements a list has."""
-        return len({found[1] for name in self.one.fields if (found := re.match(re.escape(path) + r"\[(\d+)\]", name))})
+        begin = path + "["
+        return len({name[len(begin) :].partition("]")[0] for name in self.one.fields if name.startswith(begin)})
 
     def numbers(self, path: str) -> List[int]:
         """The words of a field."""
