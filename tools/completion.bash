@@ -9,25 +9,41 @@ _dwg() {
     fi
 }
 
-# Completes the options of a tool (as --help prints them), and names of drawings and folders.
+# The options of a tool, or of its subcommand: those of --help.
+_dwg_options() {
+    local words=("$1")
+    [[ ${1##*/} != dwg-check || ! $2 =~ ^(keep|verify|forget|export|report)$ ]] || words+=("$2")
+    "${words[@]}" --help 2>/dev/null | grep -oE -- '--[a-z][a-z0-9-]*' | sort -u
+}
+
+# What may stand after an option of a tool: words, or "-" where nothing can be proposed; nothing where names may.
+_dwg_values() {
+    case $1,$2 in
+        *,--only) echo "sound unsound damaged changed missing new moved failed unreadable" ;;
+        *,--take) echo "new moved new,moved" ;;
+        *,--whole) echo "skip copy" ;;
+        *,--space) echo "model paper" ;;
+        dwg-picture,--layers) echo "-" ;;
+        *,--jobs | *,--ext | *,--exclude | *,--texts | *,--window | *,--width | *,--block | *,--background | *,--ignore | *,--codepage | *,--picture) echo "-" ;;
+    esac
+}
+
+# Proposes subcommands, options, their values, and names of drawings and folders.
 _dwg_tool() {
-    local word=${COMP_WORDS[COMP_CWORD]} before=${COMP_WORDS[COMP_CWORD - 1]}
-    local IFS=$'\n'
+    local word=${COMP_WORDS[COMP_CWORD]} before=${COMP_WORDS[COMP_CWORD - 1]} first=${COMP_WORDS[1]} tool=${1##*/} values
+    values=$(_dwg_values "$tool" "$before")
     COMPREPLY=()
     if [[ $word == -* ]]; then
-        mapfile -t COMPREPLY < <(compgen -W "$("$1" --help 2>/dev/null | grep -oE -- '--[a-z][a-z0-9-]*' | sort -u)" -- "$word")
-    elif [[ $before == --program || $before == --resume || $before == --fixity || $before == --before || $before == --output || $before == --preview || $before == -o ]]; then
+        mapfile -t COMPREPLY < <(compgen -W "$(_dwg_options "$1" "$first")" -- "$word")
+    elif [[ -n $values ]]; then
+        mapfile -t COMPREPLY < <(compgen -W "${values#-}" -- "$word")
+    elif [[ $before == --program || $before == --output || $before == --preview || $COMP_CWORD -eq 2 && $tool,$first =~ ^dwg-check,(keep|verify|forget|export)$ ]]; then
         mapfile -t COMPREPLY < <(compgen -f -- "$word")
     elif [[ $before == --tree ]]; then
         mapfile -t COMPREPLY < <(compgen -d -- "$word")
-    elif [[ $before == --whole ]]; then
-        mapfile -t COMPREPLY < <(compgen -W $'skip\ncopy' -- "$word")
-    elif [[ $before == --print0 || $before == --only ]]; then
-        mapfile -t COMPREPLY < <(compgen -W $'sound\nunsound\ndamaged\nchanged\nfailed\nunreadable' -- "$word")
-    elif [[ $before != --jobs && $before != --width && $before != --background && $before != --block && $before != --space && $before != --ignore &&
-        $before != --texts && $before != --picture && $before != --ext && $before != --exclude && $before != --codepage && $before != --window &&
-        ! ($before == --layers && $1 == *dwg-picture) ]]; then
+    else
         mapfile -t COMPREPLY < <(
+            [[ $tool,$COMP_CWORD != dwg-check,1 ]] || compgen -W "keep verify forget export report" -- "$word"
             compgen -d -- "$word"
             compgen -f -X '!*.[dD][wW][gG]' -- "$word"
         )

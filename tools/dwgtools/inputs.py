@@ -3,7 +3,6 @@
 from __future__ import annotations
 
 import contextlib
-import errno
 import io
 import os
 import stat
@@ -72,11 +71,6 @@ def input_of(file: IO[bytes], begin: bytes = b"") -> Input:
     if is_named_file(file):
         return Input(found, told.st_size, mode, again(file), state)
     return Input(found, os.fstat(found.fileno()).st_size, mode)
-
-
-def own_file(file: IO[bytes]) -> Input:
-    """A file that the tool has made, as an input."""
-    return Input(file, os.fstat(file.fileno()).st_size, source=file, state=state_of(file))
 
 
 def again(file: IO[bytes]) -> IO[bytes]:
@@ -171,30 +165,6 @@ def pieces_of(file: IO[bytes], end: int, at: int = 0) -> Iterator[bytes]:
 
 # A file of more than so many bytes is hollow where it has more than so many times what the disk has of it.
 LEAST_HOLLOW, MOST_HOLLOW = 1 << 26, 64
-# And one of more than so many also where the file system doesn't tell of holes: what is read to its end in minutes is read. (One that packs files has
-# less of them too.)
-MOST_UNTOLD = 1 << 34
-
-
-def is_hollow(file: IO[bytes], size: int) -> bool:
-    """Whether most of a file is holes: a disk has next to nothing of it, and to read it would take as long as its size says, for years perhaps."""
-    if size <= LEAST_HOLLOW:
-        return False
-    handle, at, held = file.fileno(), 0, 0
-    before = os.lseek(handle, 0, os.SEEK_CUR)
-    try:
-        while MOST_HOLLOW * held < size:
-            begin = os.lseek(handle, at, os.SEEK_DATA)
-            at = os.lseek(handle, begin, os.SEEK_HOLE)
-            held += at - begin
-    except (OSError, AttributeError) as fault:
-        # (there is nothing but a hole after this)
-        if isinstance(fault, OSError) and fault.errno == errno.ENXIO:
-            return True
-    finally:
-        os.lseek(handle, before, os.SEEK_SET)
-    # (a file system that doesn't tell of holes tells how much it has)
-    return size > MOST_UNTOLD and MOST_HOLLOW * 512 * os.fstat(handle).st_blocks < size
 
 
 def bytes_of(file: IO[bytes], most: int) -> bytes:

@@ -66,10 +66,6 @@ class Spot:
         self.judged: Optional[os.stat_result] = None
         self.name = path if at is None else os.path.basename(path)
 
-    def spot(self, name: str) -> "Spot":
-        """Another name of the folder."""
-        return Spot(self.beside(name), at=self.at)
-
     def spare_name(self) -> str:
         """A name beside the file's, as files have that are begun."""
         # A letter has four bytes at the most, and a name 255.
@@ -152,22 +148,6 @@ class Spot:
             raise ToolError(f"{one_line(self.path)} is the input itself; name another output", Exit.EXISTS)
         if self.judged is not None and not is_as_judged(there, self.judged):
             raise ToolError(f"{one_line(self.path)} was changed or replaced meanwhile", Exit.EXISTS)
-
-    def moved_aside(self) -> Optional[str]:
-        """Takes its name from the file that is to be replaced, and gives the one that it has then; None where there is none. What may not be replaced has
-        its name again."""
-        if self.replaced() is None:
-            return None
-        aside = self.spare_name()
-        self.rename(self.name, aside)
-        try:
-            self.refuse_other(self.there(aside))
-        except BaseException:
-            if not self.regained(aside):
-                self.tell_aside(aside)
-            raise
-        self.sync_folder()
-        return aside
 
     def tell_aside(self, aside: str) -> None:
         """Tells that what somebody else gave the file's name has another one, where it has that."""
@@ -436,14 +416,6 @@ def mask_of_modes() -> int:
     return mask
 
 
-def write_whole(path: str, data: bytes, force: bool = False) -> None:
-    """Writes a file whole or not at all."""
-    with WholeFile(path, force) as whole:
-        whole.file.write(data)
-        whole.finish()
-        whole.place()
-
-
 def refuse_output(path: Optional[str], force: bool, sources: Sequence[Optional[str]]) -> None:
     """Refuses an output before any work: one that is an input by any name, or what a standard stream goes to, one that is there, and what `force`
     doesn't replace."""
@@ -492,3 +464,11 @@ def output(path: Optional[str], force: bool) -> Iterator[IO[bytes]]:
         raise
     except OSError as fault:
         raise ToolError(f"{output_name(path)} can't be written: {fault.strerror}", Status.WRITE_FAULT) from None
+
+
+def write_whole(path: str, data: bytes, force: bool = False) -> None:
+    """Writes a file whole or not at all."""
+    with WholeFile(path, force) as whole:
+        whole.file.write(data)
+        whole.finish()
+        whole.place()

@@ -107,16 +107,6 @@ def end_left(session: int) -> bool:
         time.sleep(0.01)
 
 
-def end_own_session() -> None:
-    """Ends all processes of the session of this one, which began it, and this one last."""
-    own = os.getpid()
-    for process in all_processes():
-        if process.session == own != process.number:
-            with contextlib.suppress(OSError):
-                os.kill(process.number, signal.SIGKILL)
-    os.killpg(own, signal.SIGKILL)
-
-
 def computed_by(session: int) -> float:
     """How many seconds the processes of a session have computed; none where the system doesn't tell."""
     return sum(process.computed for process in all_processes() if process.session == session)

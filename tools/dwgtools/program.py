@@ -63,17 +63,6 @@ class Answer:
     notes: bytes
 
 
-@dataclass(frozen=True)
-class Tally:
-    """What one run of the program gave whose output may be long: its first and its last line, how many there are, and the notes."""
-
-    status: Status
-    first: bytes
-    last: bytes
-    count: int
-    notes: bytes
-
-
 def is_command(path: str) -> bool:
     """Whether a file can be run."""
     return os.path.isfile(path) and os.access(path, os.X_OK)
@@ -168,16 +157,6 @@ class Program:
             said = notes.read(MOST_NOTES)
         return Answer(status_of_run(ran.returncode, said), out, said)
 
-    def tally(self, words: Sequence[str], source: Union[int, IO[bytes]]) -> Tally:
-        """Runs the program and counts the lines of its output, of which no more than a piece is held."""
-        with _file_of_notes() as notes, self._started(words, source, subprocess.PIPE, notes) as ran:
-            assert ran.stdout is not None
-            watch = Watch(words[0], source, ran.pid, notes=notes, besides=self.besides)
-            lines = lines_told(watch.passed(ran.stdout.fileno(), lambda: ran.poll() is not None))
-            notes.seek(0)
-            said = notes.read(MOST_NOTES)
-        return Tally(status_of_run(ran.returncode, said), *lines, said)
-
     @contextlib.contextmanager
     def lines(self, words: Sequence[str], source: Union[int, IO[bytes]]) -> Iterator[IO[bytes]]:
         """The output while the program runs; what it notes goes to a file, and status 3 and above is ToolError after its end."""
@@ -233,11 +212,6 @@ class Program:
 
     def besides(self) -> None:
         """What is looked at besides as long as a run goes on."""
-
-    @property
-    def is_stopped(self) -> bool:
-        """Whether no run can begin any more."""
-        return self._stopped
 
     def stop(self) -> None:
         """Ends all runs, and lets none begin."""
@@ -388,15 +362,3 @@ def status_of_run(code: int, notes: bytes) -> Status:
         lines = notes.decode("utf-8", "replace").split("\n")
         said = next((line for line in reversed(lines) if line.strip()), "")
         raise ProgramFailed(f"status {code}: {said}" if said else f"status {code}") from None
-
-
-# What the launcher of a checkout begins with, in all of its versions.
-LAUNCHER = b"#!/bin/sh\n# Runs the program dwg with these words, standard input and output"
-
-
-def program_file(path: str) -> str:
-    """The file of the program that answers by a name: where that leads to the launcher of a checkout, and to no other file in it, what it has built."""
-    with open(path, "rb") as file:
-        is_launcher = file.read(len(LAUNCHER)) == LAUNCHER
-    built = os.path.join(os.path.dirname(os.path.realpath(path)), "crates", "dwg_cli", "out", "dwg_cli")
-    return built if is_launcher and os.path.isfile(built) else path

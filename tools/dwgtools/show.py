@@ -14,7 +14,7 @@ import struct
 import sys
 from array import array
 from dataclasses import dataclass, field
-from typing import IO, Any, Dict, Iterable, Iterator, List, Optional, Sequence, Tuple
+from typing import Any, Dict, Iterable, Iterator, List, Optional, Sequence, Tuple
 
 from .encodings import code_page
 from .statuses import Exit, ToolError
@@ -25,11 +25,6 @@ from .versions import LIMIT
 # bytes six times, so that an object of these may fill a file of 32 MiB. One of repeated points or widths, which have up to 160 bytes of text to a
 # byte, passes it from 1.7 MB on, where its text alone would become 5 GB.
 MOST_TEXT = 1 << 28
-
-# What the text of a drawing has at the most, by which one that nobody vouches for ends. A byte has three letters on its line. The densest fields are
-# the widths of a polyline, of which four bits have two lines of 41 letters. An object has two bytes of length, one of a body, two of a check word
-# and two in the map; a class has 29 bits. Three sections are unknown. Before its objects no more text is taken than of one of them.
-MOST_LINE = 3 * LIMIT + 1000
 MOST_SHOWN = 164 * LIMIT
 MOST_OBJECTS, MOST_CLASSES, MOST_SECTIONS = LIMIT // 7, LIMIT * 8 // 29, 3
 # The line that an object begins with.
@@ -368,22 +363,6 @@ def further_objects(lines: Iterable[bytes], found: int, count: Optional[int], li
         found += 1
     if current is not None:
         yield told_apart(current, text.getvalue())
-
-
-def shown_lines(file: IO[bytes], begin: bytes) -> Iterator[bytes]:
-    """The lines of a text of `show` whose begin is read, from wherever it comes; BadText where no drawing has so much text, or too much is to be held."""
-    left, prefix = MOST_SHOWN, MOST_SHOWN - MOST_TEXT
-    line = begin + file.readline(MOST_LINE)
-    while line:
-        left -= len(line)
-        if line.startswith(b"object "):
-            prefix = 0
-        if len(line) >= MOST_LINE and not line.endswith(b"\n"):
-            raise BadText("a line has more than %d bytes" % MOST_LINE)
-        if left < prefix:
-            raise BadText("it has more than %d bytes%s" % ((MOST_TEXT, " before its objects") if prefix else (MOST_SHOWN, "")))
-        yield line
-        line = file.readline(MOST_LINE)
 
 
 def objects(lines: Iterable[bytes]) -> Iterator[Object]:

@@ -3,8 +3,9 @@
 from __future__ import annotations
 
 import os
+import stat
 from dataclasses import dataclass
-from typing import Iterator, Optional, Sequence
+from typing import IO, Iterator, Optional, Sequence
 
 from .drawings import Drawing
 from .inputs import Input, bytes_of, input_of, refuse_changed, state_of
@@ -12,7 +13,6 @@ from .program import Program
 from .statuses import Status, ToolError
 from .streams import input_name, is_own_pipe, is_standard
 from .temporary import temporary_told
-from .verdicts import open_regular
 from .versions import OURS
 from .walking import Named, Walk, Walked, walked, without_new, without_outputs
 
@@ -88,3 +88,14 @@ class Count:
         if not self.left_out:
             return ""
         return f"{self.left_out} of {self.found} files in folders {'are' if self.left_out > 1 else 'is'} left out; dwg-check says why"
+
+
+def open_regular(path: str) -> IO[bytes]:
+    """Opens a file, and nothing that isn't one: a pipe would never end, and who waits to write into one would lose what it has to say."""
+    if not stat.S_ISREG(os.stat(path).st_mode):
+        raise OSError(0, "no regular file")
+    handle = os.open(path, os.O_RDONLY | os.O_NONBLOCK | os.O_CLOEXEC)
+    if not stat.S_ISREG(os.fstat(handle).st_mode):
+        os.close(handle)
+        raise OSError(0, "no regular file")
+    return os.fdopen(handle, "rb", buffering=0)

@@ -143,15 +143,6 @@ def refuse_pipes(sources: Sequence[Optional[str]]) -> None:
                 raise ToolError(f"{input_name(name)} is standard {called} too, and no pipe is read that is written into", Exit.EXISTS)
 
 
-def refuse_streams_in(folder: str) -> None:
-    """Refuses a file of a folder that is standard output or error too, before anything is written there. Where neither is a file, none is looked at.
-    (Nothing is written by a link that stands there.)"""
-    own = [one for one in map(_stream_file, (1, 2)) if one is not None]
-    with contextlib.suppress(OSError):
-        paths = [entry.path for entry in os.scandir(folder) if not entry.is_symlink()] if own else []
-        refuse_streams([path for path in paths if any(is_one_file(one, status_at(path, 0)) for one in own)])
-
-
 def _hush() -> None:
     """Lets all that is said on standard error from now on get lost."""
     nowhere = os.open(os.devnull, os.O_WRONLY)

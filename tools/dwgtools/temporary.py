@@ -4,7 +4,7 @@ from __future__ import annotations
 
 import contextlib
 import tempfile
-from typing import IO, Iterator
+from typing import Iterator
 
 from .escapes import one_line
 from .statuses import Exit, ToolError
@@ -43,9 +43,3 @@ class TemporaryFull(ToolError):
 
     def __init__(self) -> None:
         super().__init__(f"{temporary_name()} can't be written", Exit.FAILURE)
-
-
-def temporary_file() -> IO[bytes]:
-    """A file without a name; ToolError where there can be none."""
-    with temporary_told(), of_temporary():
-        return tempfile.TemporaryFile()

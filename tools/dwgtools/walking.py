@@ -3,19 +3,16 @@
 from __future__ import annotations
 
 import argparse
-import collections
 import errno
 import os
 import re
 import stat
-import sys
-import threading
 from dataclasses import dataclass
-from typing import IO, Deque, Dict, Iterable, Iterator, List, Optional, Sequence, Set, Tuple, Union
+from typing import Dict, Iterable, Iterator, List, Optional, Sequence, Set, Tuple
 
 from .patterns import compiled
 from .statuses import Exit, ToolError
-from .streams import as_file, is_any_version, is_one_file, outputs, refuse_pipes, refuse_streams, status_at
+from .streams import is_any_version, is_one_file, status_at
 from .versions import MOST_HEADER
 from .whole_names import absolute_name
 
@@ -61,16 +58,6 @@ class Walk:
     def leaves_out_name(self, name: str) -> bool:
         """Whether an entry is left out in whatever folder it stands."""
         return any(one.match(name) for one in self.left_out)
-
-    def would_take(self, path: str, top: str) -> bool:
-        """Whether a file is taken that stands in the folder that the walk began in, or deeper, if its folders are walked."""
-        if not self.every and not path.lower().endswith(self.endings):
-            return False
-        while self.left_out and len(path) > len(top):
-            if self.leaves_out(path, top):
-                return False
-            path = os.path.dirname(path)
-        return True
 
 
 def below(path: str, top: str) -> str:
@@ -237,45 +224,6 @@ def entries_of(folder: Entry, walk: Walk, top: str, seen: Walked, names: Optiona
         raise broken
 
 
-# How much of a name is taken; no file has one of half as many bytes.
-MOST_NAME = 1 << 16
-
-
-# How a drawing begins, and no list of names: of such that end with NUL none is empty.
-DRAWING_BEGINS = re.compile(rb"AC[0-9]{4}[\0-\x08\x0e-\x1f]{2}")
-
-
-def names_from(stream: IO[bytes], end: bytes) -> Iterator[str]:
-    """The names that a stream has, each ended by a line feed or NUL, as they come. Refused is a drawing."""
-    rest, begin = b"", b""
-    try:
-        for piece in iter(lambda: stream.read1(MOST_NAME), b""):  # type: ignore[attr-defined,no-any-return]
-            begin = begin if len(begin) > 8 else begin + piece[:8]
-            if DRAWING_BEGINS.match(begin):
-                raise ToolError("- reads names, a line each; give a drawing as a file or /dev/stdin", Exit.USAGE)
-            *names, rest = (rest + piece).split(end)
-            rest = rest[:MOST_NAME]
-            yield from (os.fsdecode(name[:MOST_NAME]) for name in names if name)
-    except OSError as fault:
-        raise ToolError(f"standard input: {fault.strerror}", Exit.FAILURE) from None
-    if rest:
-        yield os.fsdecode(rest)
-
-
-def all_named(words: Iterable[str], walk: Walk, end: bytes, given: Optional[List[str]]) -> Iterator[Named]:
-    """The files that the words name, and into a list, where there is one, what each word is, or standard input in its place gives."""
-    seen = Walked()
-    for word in words:
-        for path in names_from(sys.stdin.buffer, end) if word == "-" else [word]:
-            if given is not None:
-                given.append(path)
-            if os.path.isdir(path):
-                yield from walked(path, walk, seen)
-            else:
-                # (of names that are read nobody chose each)
-                yield (Linked if word == "-" and os.path.islink(path) else Named)(path)
-
-
 def status_of(path: str) -> Optional[os.stat_result]:
     """What stands at a name, links followed; None where nothing does."""
     try:
@@ -342,82 +290,8 @@ class Files:
         self.count, self.is_whole = len(named), True
         self._left = iter(named)
 
-    def is_ready(self) -> bool:
-        """Whether it is known at once which file is the next."""
-        return True
-
     def __iter__(self) -> Iterator[Named]:
         return self
 
     def __next__(self) -> Named:
         return next(self._left)
-
-
-class Coming(Files):
-    """The files to check as their names come: a thread reads ahead, so that it is known how many there are, and no further than there is room."""
-
-    def __init__(self, found: Iterator[Named]) -> None:
-        super().__init__([])
-        self._ahead: Deque[Named] = collections.deque()
-        self._room = MOST_AHEAD
-        self._fault: Optional[BaseException] = None
-        self._changed = threading.Condition()
-        try:
-            self.is_whole = False
-            threading.Thread(target=self._read, args=(found,), daemon=True).start()
-        except RuntimeError:
-            # (there are no more threads)
-            self.is_whole, self._left = True, found
-
-    def _read(self, found: Iterator[Named]) -> None:
-        try:
-            for named in found:
-                with self._changed:
-                    self._changed.wait_for(lambda: self._room > 0)
-                    self._ahead.append(named)
-                    self._room -= len(named.path) + ONE_NAMED
-                    self.count += 1
-                    self._changed.notify_all()
-        except BaseException as fault:  # pylint: disable=broad-except
-            self._fault = fault
-        with self._changed:
-            self.is_whole = True
-            self._changed.notify_all()
-
-    def is_ready(self) -> bool:
-        return bool(self._ahead) or self.is_whole
-
-    def __next__(self) -> Named:
-        with self._changed:
-            self._changed.wait_for(self.is_ready)
-            if self._ahead:
-                named = self._ahead.popleft()
-                self._room += len(named.path) + ONE_NAMED
-                self._changed.notify_all()
-                return named
-        if self._fault:
-            raise self._fault
-        return super().__next__()
-
-
-def can_come(options: argparse.Namespace) -> bool:
-    """Whether files can be checked before all are known: none may be what the table or messages are added to, and nothing is held for LOG."""
-    return "-" in options.files and options.log is None and not outputs(is_new=False)
-
-
-def files_of(options: argparse.Namespace) -> Union[Coming, List[Named]]:
-    """The files that the words name. Refused is one that the table or messages would be added to, and so are LOG and the names that are read."""
-    # What is new when this begins isn't checked.
-    # (of names that come without end none is held)
-    options.given = None if can_come(options) else []
-    found = without_new(all_named(options.files, walk_of(options), b"\0" if options.null else b"\n", options.given), outputs(is_new=True))
-    # (LOG and a file may be called by a hyphen, which isn't standard input then)
-    streams = [*([] if options.log is None else [as_file(options.log)]), *(word for word in options.files if word == "-")]
-    if can_come(options):
-        # (of what is read by name no pipe is read)
-        refuse_streams(streams)
-        refuse_pipes(options.files)
-        return Coming(found)
-    named = list(without_outputs(held(found) if "-" in options.files else found, walk_of(options)))
-    refuse_streams([*streams, *(as_file(one.path) for one in named if one.fault is None)])
-    return named

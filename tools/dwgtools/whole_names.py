@@ -72,10 +72,6 @@ def absolute_name(path: str) -> str:
         return path
 
 
-# How the names of what a process has open begin.
-_OPENED = ("/dev/stdin", "/dev/stdout", "/dev/stderr", "/dev/fd/", "/proc/")
-
-
 def _working_folder() -> str:
     """The whole name of the folder that relative names begin in; where that is gone, the relative one."""
     try:
@@ -109,14 +105,3 @@ class Listings:
                 self._names[folder] = None
         names = self._names[folder]
         return names is None or last in names
-
-
-def spelled_name(path: str) -> str:
-    """The whole name of a file as it is spelled: links in it aren't gone through, but for those before the last `..`, which leads up from there. What
-    a process has open is another file each time, and is called as that is."""
-    parts = [part for part in path.split(os.sep) if part not in ("", os.curdir)]
-    ups = [index for index, part in enumerate(parts) if part == os.pardir]
-    begin = os.sep if path.startswith(os.sep) else _working_folder()
-    cut = ups[-1] + 1 if ups else 0
-    name = os.path.join(absolute_name(os.path.join(begin, *parts[:cut])) if cut else begin, *parts[cut:])
-    return absolute_name(path) if name.startswith(_OPENED) else name

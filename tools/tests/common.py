@@ -2,7 +2,6 @@
 
 from __future__ import annotations
 
-import os
 import random
 import signal
 import struct
@@ -14,33 +13,8 @@ import unittest
 from pathlib import Path
 from typing import Any, Dict, Iterator, List, Tuple
 
-from made import PROGRAM, TOOLS, layout, made, program_that
+from made import TOOLS, layout, made, program_that
 
-from dwgtools.log import Log
-from dwgtools.rows import Row
-
-
-# Runs a tool where a name is listed by no folder, as the one that a file had is on a file system that doesn't tell names apart by letter case.
-WITHOUT_NAME = """
-import contextlib, os, runpy, sys
-hidden, sys.argv = sys.argv[1], sys.argv[2:]
-scandir, listdir = os.scandir, os.listdir
-os.scandir = lambda path: contextlib.nullcontext([one for one in scandir(path) if one.name != hidden])
-os.listdir = lambda path: [one for one in listdir(path) if one != hidden]
-sys.path.insert(0, os.path.dirname(sys.argv[0]))
-runpy.run_path(sys.argv[0], run_name="__main__")
-"""
-
-
-def without_name(hidden: str, folder: Path, name: str, *words: object) -> "subprocess.CompletedProcess[bytes]":
-    """What a tool answers in a folder where a name isn't listed."""
-    ran = [sys.executable, "-B", "-X", "utf8", "-c", WITHOUT_NAME, hidden, str(TOOLS / name), *map(str, words)]
-    return subprocess.run(ran, cwd=folder, env={**os.environ, "DWG": PROGRAM}, check=False, capture_output=True)
-
-
-def keep_row(log: Log, row: Row) -> Row:
-    """The line of a file that stays where it is while it is looked at, kept in LOG."""
-    return log.kept(row, log.seat_of(row.path))
 
 
 def double(word: int) -> float:

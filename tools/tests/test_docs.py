@@ -16,7 +16,7 @@ import made
 from made import TOOLS, TOP
 
 CHECK = made.module(TOOLS / "check-docs", "check_docs")
-LAST = re.compile(r"^(\d+) examples? are as shown, (\d+) aren't, (\d+) not run \(make, rt ci\)$")
+LAST = re.compile(r"^(\d+) examples? are as shown, (\d+) aren't, (\d+) not run \(make, make check\)$")
 
 
 def check(*documents: pathlib.Path, program: str = made.PROGRAM) -> "subprocess.CompletedProcess[str]":
@@ -62,16 +62,16 @@ class Docs(unittest.TestCase):
         return check(path)
 
     def test_right(self) -> None:
-        text = "A page.\n\n```sh\necho one > made; cat made; echo two >&2; exit 3\n```\n\n```text\none\ntwo\n```\n\n```sh\ncat made >/dev/null\n```\n\n```sh\nrt ci\n```\n"
+        text = "A page.\n\n```sh\necho one > made; cat made; echo two >&2; exit 3\n```\n\n```text\none\ntwo\n```\n\n```sh\ncat made >/dev/null\n```\n\n```sh\nmake check\n```\n"
         ran = self.judged(text)
-        self.assertEqual((ran.returncode, ran.stdout), (0, "2 examples are as shown, 0 aren't, 1 not run (make, rt ci)\n"))
+        self.assertEqual((ran.returncode, ran.stdout), (0, "2 examples are as shown, 0 aren't, 1 not run (make, make check)\n"))
 
     def test_where_no_program_is_built(self) -> None:
         path = self.folder / "page.md"
         path.write_text("```sh\n./dwg sections < x\n```\n\n```text\nwrong\n```\n\n```sh\ntools/dwg-check x\n```\n\n```sh\necho one\n```\n\n```text\none\n```\n")
         launcher = made.program_that(self.folder, "unbuilt", ["echo 'dwg: not built' >&2", "exit 69"])
         ran = check(path, program=str(launcher))
-        self.assertEqual((ran.returncode, ran.stdout), (0, "1 examples are as shown, 0 aren't, 0 not run (make, rt ci), 2 left out, as the program isn't built\n"), ran.stderr)
+        self.assertEqual((ran.returncode, ran.stdout), (0, "1 examples are as shown, 0 aren't, 0 not run (make, make check), 2 left out, as the program isn't built\n"), ran.stderr)
 
     def test_program_and_tools(self) -> None:
         made.needs_program()
@@ -140,11 +140,6 @@ class Docs(unittest.TestCase):
         ran = subprocess.run([str(TOOLS / "check-docs"), "--nosuch"], capture_output=True, check=False)
         self.assertEqual(ran.returncode, 64)
 
-def has_parallel() -> bool:
-    """Whether the command `parallel` is GNU's."""
-    found = shutil.which("parallel")
-    return found is not None and b"GNU" in subprocess.run([found, "--version"], stdin=subprocess.DEVNULL, capture_output=True, check=False).stdout
-
 
 class Recipes(unittest.TestCase):
     """What recipes do where something goes wrong, each in a folder of its own."""
@@ -178,34 +173,6 @@ class Recipes(unittest.TestCase):
             (self.folder / "made.dwg").write_bytes(data)
             self.assertEqual((self.run_it(script).returncode, self.contents()), (status, {**before, "made.dwg": data}))
             self.assertNotEqual(self.run_it(check_both).returncode, 0)
-
-    @unittest.skipUnless(has_parallel(), "what needs GNU parallel, which isn't installed")
-    def test_several_machines(self) -> None:
-        """What one doesn't do another does, and what none does a later run, with what is new; the status says whether all is done."""
-        page = (TOP / "docs" / "dwg-tools.7").read_text().partition("with GNU parallel")[2]
-        lines = page.partition(".Bd -literal -offset indent\n")[2].partition(".Ed\n")[0].replace("\\e", "\\")
-        self.assertEqual([lines.count(word) for word in ("/archive", "-N 200", "one,two")], [1, 1, 1])
-        script = lines.replace("/archive", '"$PWD/d"').replace("-N 200", "-N 2")
-        for name in ("d/deep", "bad", "one", "two", ".parallel"):
-            (self.folder / name).mkdir(parents=True)
-        (self.folder / ".parallel" / "will-cite").touch()
-        for name, data in (("b.dwg", made.made(1)), ("c.DWG", made.made(2)[:-9]), ("deep/it's\n\"d\".dwg", made.made(3)), ("e.dwg", b"")):
-            (self.folder / "d" / name).write_bytes(data)
-        made.program_that(self.folder, "ssh", [
-            'while case $1 in -*) ;; *) false ;; esac do shift; done',
-            'host=$1; shift; [ "$1" != -- ] || shift',
-            'case " $DOWN " in *" $host "*) exit 255 ;; esac',
-            f"cd '{self.folder}'/$host; case \" $BAD \" in *\" $host \"*) PATH='{self.folder}/bad:'$PATH ;; esac",
-            'exec sh -c "$*"',
-        ])  # fmt: skip
-        # (as where Python can't begin)
-        made.program_that(self.folder / "bad", "dwg-check", ["exit 1"])
-        for down, bad, is_done, count in (("one two", "", False, 0), ("", "one two", False, 0), ("one", "", True, 4), ("", "", True, 5)):
-            if count == 5:
-                (self.folder / "d" / "a.dwg").write_bytes(made.made(4))
-            ran = self.run_it(script, DOWN=down, BAD=bad)
-            table = (self.folder / "table.jsonl").read_text().splitlines()
-            self.assertEqual((ran.returncode == 0, len(table), len({*table})), (is_done, count, count), ran.stderr)
 
 
 if __name__ == "__main__":

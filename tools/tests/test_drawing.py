@@ -3,7 +3,6 @@
 from __future__ import annotations
 
 import errno
-import io
 import os
 import pathlib
 import shutil
@@ -14,7 +13,7 @@ import unittest.mock
 
 import made
 from dwgtools.escapes import one_line, one_message
-from dwgtools.notes import Found, Kept, Loss, Refusal, Said, TooLarge, read_note, read_notes, read_recovery
+from dwgtools.notes import Refusal, Said, read_note
 from dwgtools.outputs import WholeFile, write_whole
 from dwgtools.program import Answer, Program, ProgramFailed, find_program
 from dwgtools.statuses import Exit, Status, ToolError
@@ -23,21 +22,10 @@ from dwgtools.statuses import Exit, Status, ToolError
 NOTES = {
     "dwg: refused: objects 14 at 1871: check": Refusal("objects", 14, 1871, "check"),
     "dwg: refused: header 0 at 60: short": Refusal("header", 0, 60, "short"),
-    "lost: file header": Loss("file header"),
-    "lost: header variables": Loss("header variables"),
-    "lost: classes": Loss("classes"),
-    "lost: section 7 at 4000": Loss("section", number=7, place=4000),
-    "lost: map page 3 at 12345": Loss("map page", number=3, place=12345),
-    "lost: map end at 99": Loss("map end", place=99),
-    "lost: object 1C7 at 12593": Loss("object", handle=0x1C7, place=12593),
-    "lost: object 0 at 0": Loss("object", handle=0, place=0),
-    "found: object 7FFFFFFFFFFFFFFF at 33554431": Found((1 << 63) - 1, 33554431),
-    "kept 367": Kept(367),
-    "dwg: drawing too large: 33554433 bytes": TooLarge(33554433),
     "dwg: read fault": Said("read fault"),
     "dwg: input too long": Said("input too long"),
     "dwg: not sound": Said("not sound"),
-    "kept many": Said("kept many"),
+    "kept 367": Said("kept 367"),
 }
 
 
@@ -48,18 +36,6 @@ class Notes(unittest.TestCase):
         for line, value in NOTES.items():
             self.assertEqual(read_note(line), value)
         self.assertEqual(str(read_note("dwg: refused: map 0 at 7: pair")), "map 0 at 7: pair")
-
-    def test_recovery(self) -> None:
-        notes = b"dwg: refused: objects 0 at 183: check\nlost: classes\nlost: object C at 183\nfound: object D at 9\nkept 1\n"
-        told = read_recovery(io.BytesIO(notes))
-        self.assertEqual((told.refusal, told.kept), (Refusal("objects", 0, 183, "check"), 1))
-        self.assertEqual((list(told.losses("classes", "object")), list(told.all_found())), ([Loss("classes"), Loss("object", handle=12, place=183)], [Found(13, 9)]))
-        self.assertEqual(({sort: count for sort, count in told.lost.items() if count}, told.found), ({"classes": 1, "object": 1}, 1))
-        nothing = read_recovery(io.BytesIO())
-        self.assertEqual((nothing.refusal, nothing.kept), (None, None))
-        for cut in (notes[:-7], b"kept 3\n", notes.replace(b"lost: classes", b"lost: nothing")):
-            with self.assertRaises(ValueError):
-                read_recovery(io.BytesIO(cut))
 
 
 class Names(unittest.TestCase):
@@ -91,7 +67,7 @@ class Running(unittest.TestCase):
         data = made.made(3)
         self.assertEqual(program.run(["audit"], data), Answer(Status.DONE, b"audit yes\n", b""))
         self.assertEqual(program.run(["audit"], data[:60]), Answer(Status.REFUSED, b"", b"dwg: refused: header 0 at 60: short\n"))
-        self.assertEqual(read_notes(program.run(["nothing"]).notes)[0].__class__, Said)
+        self.assertEqual(read_note(program.run(["nothing"]).notes.decode()).__class__, Said)
         self.assertEqual(program.run(["rewrite"], program.run(["make", "3", "7"]).output).output, data)
 
     def test_lines(self) -> None:

@@ -703,16 +703,6 @@ class Folders(common.InFolder):
         said = f"dwg-info: {self.top}/a/z.DWG: the program dwg gave no answer: killed by signal 9\n" + self.left_out
         self.assertEqual((ran.returncode, ran.stdout, ran.stderr.decode()), (69, answer("--layers", self.whole[0], self.whole[2])[1], said))
 
-    def test_damaged_drawings_are_searched_once_they_are_recovered(self) -> None:
-        recovered = self.folder / "recovered"
-        self.assertEqual(tool("dwg-recover", "--quiet", "--tree", recovered, self.top / "a" / "bad.dwg", self.top / "b.dwg").returncode, 1)
-        status, out, said = answer("--texts", "", self.top, recovered)
-        rows = [row for row in rows_of(out) if row[0] == str(recovered / "bad.dwg")]
-        self.assertEqual((status, bool(rows), said), (0, True, self.left_out.replace("3 of 6", "3 of 7")))
-        told = " ".join(tool("dwg-info", "--help").stdout.decode().split())
-        for said in ("not of MTEXT and dimensions", "Damaged drawings aren't searched: let dwg-recover write what is whole of them into a tree"):
-            self.assertIn(said, told)
-
     def test_outputs_in_the_folder(self) -> None:
         out, old = self.top / "out.dwg", (self.top / "b.dwg").read_bytes()
         expected = answer("--layers", *self.whole)[1]

@@ -5,12 +5,12 @@ from __future__ import annotations
 import json
 import re
 import unittest
-from typing import Any, Dict, List
+from typing import Any, Dict
 
 import common
 import older
 import spelled
-from made import dwg, flipped, hole, layout, needs_program, shown, tool
+from made import dwg, layout, needs_program, shown, tool
 
 needs_program()
 
@@ -44,84 +44,6 @@ class Tools(common.InFolder):
     """Each tool."""
 
     maxDiff = None
-
-    def rows(self, *files: object) -> List[List[str]]:
-        """What dwg-check says: verdict, detail, findings, trailing bytes and version of each file."""
-        lines = tool("dwg-check", "--quiet", *files).stdout.decode().splitlines()[1:]
-        return [words[1:4] + words[5:] for words in (line.split("\t") for line in lines)]
-
-    def test_check(self) -> None:
-        header = "header 0 at 0: version"
-        prefix = len(older.Plan().frames[0][1]) + 183
-        cases: Dict[bytes, List[str]] = {
-            PLAN: ["sound", "", "0", "0", "AC1014"],
-            PLAN + bytes(5): ["trailing bytes", f"5 from {len(PLAN)}, all 0; sound", "0", "5", "AC1014"],
-            older.Drawing().file() + b"x": ["trailing bytes", "", "", "1", "AC1014"],
-            PLAN[:-1]: ["damaged", f"map 1 at {len(PLAN) - 4}: short", "", "", "AC1014"],
-            flipped(PLAN, prefix - 3): ["damaged", "objects 0 at 183: check", "", "", "AC1014"],
-            bytes([3] * 40) + PLAN: ["no drawing", "AC1014 begins at 40", "", "", ""],
-            bytes([3] * 40) + b"AC1014" + bytes([3] * 9) + spelled.Drawing().file(): ["no drawing", "AC1015 begins at 55", "", "", ""],
-            without_version(PLAN, b"AC1015"): ["damaged", "header 0 at 52: check (the rest of the header is that of AC1014)", "", "", ""],
-            without_version(PLAN, b"AC1018"): ["damaged", f"{header} (the rest of the header is that of AC1014)", "", "", ""],
-            hole(PLAN, 0, 6): ["damaged", f"{header} (the rest of the header is that of AC1014)", "", "", ""],
-            hole(PLAN, 0, 70): ["damaged", f"{header} (header variables at 70)", "", "", ""],
-            hole(PLAN, 0, 183): ["damaged", f"{header} (recover keeps {COUNT} objects of AC1014)", "", "", ""],
-            flipped(PLAN, 60): ["damaged", "header 0 at 54: sentinel", "", "", "AC1014"],
-        }
-        rows = self.rows(*(self.file(f"{index}.dwg", data) for index, data in enumerate(cases)))
-        unsound = rows.pop(2)
-        self.assertEqual((unsound[0], unsound[3], unsound[4]), ("trailing bytes", "1", "AC1014"))
-        self.assertEqual(rows, [row for index, row in enumerate(cases.values()) if index != 2])
-
-    def report(self, data: bytes, *words: object) -> Dict[str, Any]:
-        """What dwg-recover tells."""
-        ran = tool("dwg-recover", "--json", "--force", *words, self.file("in.dwg", data), self.folder / "out.dwg")
-        self.assertEqual((ran.returncode in (0, 1), ran.stderr), (True, b""))
-        told: Dict[str, Any] = json.loads(ran.stdout)
-        return told
-
-    def said(self, *words: object) -> str:
-        """The same in words."""
-        return tool("dwg-recover", "--force", *words, self.folder / "in.dwg", self.folder / "out.dwg").stdout.decode()
-
-    def test_recover(self) -> None:
-        told = self.report(PLAN)
-        self.assertEqual((told["version"], told["whole"], told["kept"]["objects"], (self.folder / "out.dwg").read_bytes()), ("AC1014", True, COUNT, PLAN))
-        frame = next(one for one in layout(PLAN).frames if one.handle == 0x32)
-        damaged = flipped(PLAN, frame.place + 2 + frame.size // 2)
-        told = self.report(damaged, "--before", self.file("whole.dwg", PLAN))
-        self.assertEqual((told["version"], told["rest_of_header"], told["kept"]["objects"], told["kept"]["raw"]), ("AC1014", None, COUNT - 1, 0))
-        self.assertEqual(([one["handle"] for one in told["lost"]["objects"]], told["before"]["kinds"]), (["32"], {"CIRCLE": 1}))
-        self.assertEqual((self.folder / "out.dwg").read_bytes()[:6], b"AC1014")
-        # Without its header it is read as what its first six bytes say.
-        told = self.report(flipped(PLAN, 60))
-        self.assertEqual((told["version"], told["lost"]["header"], told["kept"]["objects"]), ("AC1014", True, COUNT))
-
-    def test_recover_by_the_other_version(self) -> None:
-        """One bit makes 5 of 4. Then the rules of the other version find nothing, and what the rest of the header is of is told."""
-        hint = "The rest of its header is that of AC1014: put AC1014 in place of its first six bytes, and recover it again.\n"
-        for version, reason in ((b"AC1015", "header 0 at 52: check"), (bytes(6), "header 0 at 0: version")):
-            told = self.report(without_version(PLAN, version), "--even-empty")
-            self.assertEqual((told["version"], told["rest_of_header"], told["kept"]["objects"]), ("AC1015", "AC1014", 0))
-            self.assertIn(hint, self.said("--even-empty"))
-            ran = tool("dwg-recover", "--force", self.folder / "in.dwg", self.folder / "out.dwg")
-            self.assertEqual(ran.returncode, 65)
-            self.assertTrue(ran.stderr.decode().endswith(f"{reason}: no object was kept, so nothing is written; the rest of the header is that of AC1014\n"))
-        told = self.report(without_version(spelled.Drawing().file(), b"AC1014"), "--even-empty")
-        self.assertEqual((told["version"], told["rest_of_header"]), ("AC1014", "AC1015"))
-
-    def test_mostly_raw(self) -> None:
-        """Where most of what is kept is raw, and no header tells the version, it is said by which it was read."""
-        one = older.Drawing()
-        for _ in range(20):
-            one.sized(300, one.free(), "", "1", "")
-        data = one.file()
-        told = self.report(flipped(data, in_first_body(data)))
-        self.assertEqual((told["kept"]["raw"], told["rest_of_header"]), (20, None))
-        self.assertGreater(2 * told["kept"]["raw"], told["kept"]["objects"])
-        self.assertIn("Of those kept 20 are raw: they were read as AC1014, which is wrong where the first six bytes are damaged.\n", self.said())
-        self.report(data)
-        self.assertNotIn("are raw", self.said())
 
     def test_json(self) -> None:
         head, *lines = [json.loads(line) for line in tool("dwg-json", given=PLAN).stdout.splitlines()]

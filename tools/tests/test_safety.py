@@ -2,12 +2,10 @@
 
 from __future__ import annotations
 
-import collections
 import csv
 import io
 import json
 import os
-import random
 import re
 import resource
 import shlex
@@ -27,7 +25,7 @@ import common
 import made
 import spelled
 import test_limits
-from made import TOOLS, flipped, layout, made as drawn, program_that, tool
+from made import TOOLS, flipped, made as drawn, program_that, tool
 
 from dwgtools.outputs import WholeFile, write_whole
 
@@ -35,7 +33,6 @@ from dwgtools.outputs import WholeFile, write_whole
 WRITERS: Dict[str, Callable[[object, object], List[object]]] = {
     "dwg-json": lambda source, out: [source, "--output", out],
     "dwg-picture": lambda source, out: [source, "--output", out],
-    "dwg-recover": lambda source, out: [source, out],
     "dwg-info": lambda source, out: [source, "--output", out],
 }
 
@@ -44,8 +41,6 @@ ALL: Dict[str, Callable[[object], List[object]]] = {
     "dwg-json": lambda source: [source],
     "dwg-picture": lambda source: [source],
     "dwg-diff": lambda source: [source, source],
-    "dwg-check": lambda source: [source],
-    "dwg-recover": lambda source: [source, "-"],
     "dwg-info": lambda source: [source],
 }
 
@@ -97,14 +92,11 @@ class Outputs(common.InFolder):
         path = self.file("a.dwg", drawn(3, 1))
         for name in ("dwg-json", "dwg-picture", "dwg-info", "dwg-info --layers"):
             self.assertEqual(in_bash(f'{name} --output "$1" --force < "$1"', path).returncode, 73)
-        self.assertEqual(in_bash('dwg-recover --force - "$1" < "$1"', path).returncode, 73)
-        older = self.file("b.dwg", drawn(4, 1))
-        self.assertEqual(tool("dwg-recover", "--force", "--before", older, path, older).returncode, 73)
-        self.assertEqual((path.read_bytes(), older.read_bytes()), (drawn(3, 1), drawn(4, 1)))
+        self.assertEqual(path.read_bytes(), drawn(3, 1))
 
     def test_a_table_or_text_is_not_added_to_the_input(self) -> None:
         path, other = self.file("a.dwg", drawn(3, 1)), self.file("b.dwg", drawn(4, 1))
-        for script, status in (('dwg-json "$1" >> "$1"', 73), ('dwg-picture "$1" >> "$1"', 73), ('dwg-diff "$2" "$1" >> "$1"', 2), ('dwg-check "$1" >> "$1"', 73), ('dwg-recover "$1" - >> "$1"', 73), ('dwg-recover "$1" "$2.out" >> "$1"', 73), ('dwg-json < "$1" >> "$1"', 73), ('dwg-info "$1" >> "$1"', 73), ('dwg-info --json < "$1" >> "$1"', 73), ('dwg-info --preview - "$1" >> "$1"', 73)):
+        for script, status in (('dwg-json "$1" >> "$1"', 73), ('dwg-picture "$1" >> "$1"', 73), ('dwg-diff "$2" "$1" >> "$1"', 2), ('dwg-json < "$1" >> "$1"', 73), ('dwg-info "$1" >> "$1"', 73), ('dwg-info --json < "$1" >> "$1"', 73), ('dwg-info --preview - "$1" >> "$1"', 73)):
             self.assertEqual(in_bash(script, path, other).returncode, status, script)
             self.assertEqual(path.read_bytes(), drawn(3, 1), script)
 
@@ -170,9 +162,6 @@ class Outputs(common.InFolder):
             if os.path.exists("/dev/full"):
                 ran = in_bash(f'{name} "$1" >/dev/full', path)
                 self.assertEqual((ran.returncode, ran.stderr.decode()), (5, f"{name}: standard output can't be written: No space left on device\n"))
-        if os.path.exists("/dev/full"):
-            ran = in_bash('dwg-recover "$1" - >/dev/full', path)
-            self.assertEqual((ran.returncode, ran.stderr.decode()), (5, "dwg-recover: standard output can't be written: No space left on device\n"))
 
     def test_a_temporary_file_that_cannot_be_written_is_told_as_one(self) -> None:
         """What is full is told, and no input or output is called bad for it."""
@@ -181,8 +170,6 @@ class Outputs(common.InFolder):
         name = f"the temporary file in {self.folder}/temporary"
         piped = [
             ("dwg-json", ["-"], 70, path), ("dwg-picture", ["-"], 70, path), ("dwg-diff", ["-", path], 2, path), ("dwg-info", ["-"], 70, path),
-            ("dwg-recover", ["-", self.folder / "out"], 70, path), ("dwg-recover", ["--before", "-", path, self.folder / "out"], 70, path),
-            ("dwg-recover", [path, "-"], 70, None),
             # The notes of the program are in one too.
             ("dwg-json", [text], 70, None), ("dwg-diff", [path, text], 2, None), ("dwg-info", [cut], 70, None),
         ]  # fmt: skip
@@ -196,25 +183,21 @@ class Outputs(common.InFolder):
                 of = ("standard input: " if words == ["-"] else f"{words[0]}: ") if tool_name == "dwg-info" else ""
                 self.assertRegex(ran.stderr.decode(), rf"\A{tool_name}: {re.escape(of + name)}( can't be written|: File too large)\n\Z")
         # So is one that can't be made, whichever it is of those that a tool makes, and nothing is left of an output that isn't there.
-        for tool_name, words, status in (("dwg-json", [path], 70), ("dwg-picture", [path], 70), ("dwg-info", [path], 70), ("dwg-diff", [path, path], 2), ("dwg-recover", [path, self.folder / "out"], 70)):
+        for tool_name, words, status in (("dwg-json", [path], 70), ("dwg-picture", [path], 70), ("dwg-info", [path], 70), ("dwg-diff", [path, path], 2)):
             for count in range(8):
-                for left in ("out", "out.notes"):
-                    (self.folder / left).unlink(missing_ok=True)
                 ran = test_limits.otherwise(tool_name, NO_TEMPORARY.format(count=count), "--program", made.PROGRAM, *words)
                 if ran.returncode == 0:
                     break
-                there = (self.folder / "out").exists()
                 of = re.escape(f"{path}: ") if tool_name == "dwg-info" else ""
-                said = rf"\A{tool_name}: {of}(the|a) temporary file( in \S+)?( can't be written)?: No space left on device{'; .*/out is there' if there else ''}\n\Z"
+                said = rf"\A{tool_name}: {of}(the|a) temporary file( in \S+)?( can't be written)?: No space left on device\n\Z"
                 self.assertEqual((ran.returncode, ran.stdout), (status, b""), (tool_name, count, ran.stderr))
                 self.assertRegex(ran.stderr.decode(), said, (tool_name, count))
-                self.assertEqual((self.folder / "out.notes").exists(), there)
             self.assertTrue(0 < count < 7, tool_name)
         said = [str(TOOLS / "dwg-json"), "--program", made.PROGRAM, str(path)]
         ran = subprocess.run(said, capture_output=True, check=False, preexec_fn=limited_to(0))
         self.assertEqual((ran.returncode, ran.stdout), (70, b""), ran.stderr)
         self.assertTrue(ran.stderr.startswith(b"dwg-json: a temporary file: No usable temporary directory found in "), ran.stderr)
-        self.assertEqual(sorted(os.listdir(self.folder)), ["a.dwg", "cut.dwg", "out", "out.notes", "temporary", "text"])
+        self.assertEqual(sorted(os.listdir(self.folder)), ["a.dwg", "cut.dwg", "temporary", "text"])
 
     def test_a_temporary_file_that_is_full_at_its_last_bytes_ends_no_run(self) -> None:
         """Rows of a drawing of which the last ones, which a buffer held, find no room any more, and which are read after all was shown."""
@@ -233,23 +216,9 @@ class Outputs(common.InFolder):
             self.assertEqual((ran.returncode, list(csv.reader(io.StringIO(ran.stdout.decode())))), (70, others), most)
             self.assertRegex(ran.stderr.decode(), rf"\Adwg-info: {self.folder}/d/b.dwg: the temporary file in \S+: File too large\n\Z")
 
-    def test_an_output_that_is_there_by_another_name_is_not_replaced(self) -> None:
-        """As where a file system takes small letters for capital ones, the input perhaps."""
-        path, out = self.file("plan.dwg", drawn(3, 1)), self.file("PLAN.DWG", b"")
-        listed = "import os; os.listdir = lambda path='.': ['plan.dwg']"
-        for name in ("dwg-json", "dwg-picture", "dwg-info"):
-            ran = test_limits.otherwise(name, listed, "--program", made.PROGRAM, "--force", "--output", out, path)
-            self.assertEqual((ran.returncode, ran.stdout, out.read_bytes()), (73, b"", b""), ran.stderr)
-            self.assertEqual(ran.stderr.decode(), f"{name}: {out} is there by another name, which --force doesn't replace\n")
-        ran = test_limits.otherwise("dwg-recover", listed, "--program", made.PROGRAM, "--force", path, out)
-        self.assertEqual((ran.returncode, out.read_bytes()), (73, b""), ran.stderr)
-
     def test_a_temporary_file_that_stays_is_told(self) -> None:
         """As in a folder to which files can only be added."""
-        data = drawn(20, 1)
-        path = self.file("a.dwg", data)
-        (self.folder / "plans").mkdir()
-        (self.folder / "plans" / "a.dwg").write_bytes(flipped(data, layout(data).frames[9].place + 5))
+        path = self.file("a.dwg", drawn(20, 1))
         keeping = """
 import os
 unlink = os.unlink
@@ -260,13 +229,13 @@ def kept(name, **more):
 os.unlink = kept
 """
         runs = [(name, 0, words(path, self.folder / "new" / "out")) for name, words in WRITERS.items()]
-        for name, status, words in (*runs, ("dwg-recover", 1, ["--quiet", "--tree", self.folder / "new", self.folder / "plans"])):
+        for name, status, words in runs:
             (self.folder / "new").mkdir()
             ran = test_limits.otherwise(name, keeping, "--program", made.PROGRAM, *words)
             left = sorted(map(str, (self.folder / "new").rglob("*.part")))
             said = sorted(line for line in ran.stderr.decode().splitlines() if line.endswith("is left there, and can't be removed: Operation not permitted"))
             self.assertEqual((ran.returncode, said), (status, [f"{name}: {one} is left there, and can't be removed: Operation not permitted" for one in left]), (name, ran.stderr))
-            self.assertEqual(len(left), 2 if name == "dwg-recover" else 1)
+            self.assertEqual(len(left), 1)
             shutil.rmtree(self.folder / "new")
 
     @unittest.skipUnless(sys.platform == "linux", "renames that replace nothing, which Linux has")
@@ -298,18 +267,17 @@ os.unlink = kept
                     found = sorted(os.listdir(self.folder / "moved"))
                     # (what has a name of its folder alone is where that is)
                     status = 5 if place is None else 0
-                    self.assertEqual((ran.returncode, found), (status, ["out", "out.notes"] if name == "dwg-recover" else ["out"]), (name, force, ran.stderr))
+                    self.assertEqual((ran.returncode, found), (status, ["out"]), (name, force, ran.stderr))
                     if status:
                         said_so = f"{name}: {out.parent} was moved or replaced meanwhile, and {out} went with it\n"
                         self.assertEqual((ran.stdout, ran.stderr.decode()), (b"", said_so))
                     shutil.rmtree(self.folder / "moved")
             # What stands in a folder that is set aside isn't replaced.
-            if name != "dwg-recover":
-                (self.folder / "new").mkdir()
-                self.file("new/out", b"older")
-                ran = tool(name, "--program", moving, *words(path, self.folder / "new" / "out"), "--force")
-                self.assertEqual((ran.returncode, (self.folder / "moved" / "out").read_bytes()), (5, b"older"), ran.stderr)
-                shutil.rmtree(self.folder / "moved")
+            (self.folder / "new").mkdir()
+            self.file("new/out", b"older")
+            ran = tool(name, "--program", moving, *words(path, self.folder / "new" / "out"), "--force")
+            self.assertEqual((ran.returncode, (self.folder / "moved" / "out").read_bytes()), (5, b"older"), ran.stderr)
+            shutil.rmtree(self.folder / "moved")
 
     def test_an_output_is_where_links_lead_to_and_nothing_is_left_elsewhere(self) -> None:
         path = self.file("a.dwg", drawn(3, 1))
@@ -345,16 +313,10 @@ os.unlink = kept
 
     def test_long_names(self) -> None:
         path = self.file("a.dwg", drawn(3, 1))
-        for name, out in (("dwg-json", "\u6587" * 85), ("dwg-picture", "x" * 255), ("dwg-recover", "\u6587" * 83), ("dwg-json", "\U0001f4d0" * 63), ("dwg-info", "\u6588" * 85)):
+        for name, out in (("dwg-json", "\u6587" * 85), ("dwg-picture", "x" * 255), ("dwg-json", "\U0001f4d0" * 63), ("dwg-info", "\u6588" * 85)):
             ran = tool(name, *WRITERS[name](path, self.folder / out))
             self.assertEqual((ran.returncode, ran.stderr), (0, b""))
             self.assertTrue((self.folder / out).is_file())
-
-    def test_two_outputs_come_together_or_not_at_all(self) -> None:
-        path, out = self.file("a.dwg", drawn(3, 1)), self.folder / "out"
-        coming = program_that(self.folder, "coming", [f'[ "$1" != recover ] || echo precious >"{out}"', 'exec "$REAL" "$@"'])
-        self.assertEqual(tool("dwg-recover", "--program", coming, path, out).returncode, 73)
-        self.assertEqual((out.read_bytes(), sorted(os.listdir(self.folder))), (b"precious\n", ["a.dwg", "coming", "out"]))
 
 
 class Inputs(common.InFolder):
@@ -376,31 +338,9 @@ class Inputs(common.InFolder):
         for script, expected in same.items():
             ran = in_bash(script, old, new, self.folder / "fifo")
             self.assertEqual((ran.returncode, ran.stdout, ran.stderr), (expected.returncode, expected.stdout, expected.stderr), script)
-        ran = in_bash('dwg-check --json <(cat "$1") <(head -c 90 "$2") /dev/fd/99', old, new)
-        self.assertEqual(re.findall(rb'"verdict": "([a-z]+)"', ran.stdout), [b"sound", b"damaged", b"unreadable"])
 
     def test_an_input_that_has_too_many_bytes(self) -> None:
         self.assertEqual(in_bash("dwg-json <(cat \"$1\" /dev/zero 2>/dev/null)", self.file("a.dwg", drawn(3, 1))).returncode, 7)
-
-    def test_hyphens_are_standard_streams(self) -> None:
-        data = drawn(50, 3)
-        parts = layout(data)
-        damaged = flipped(data, parts.frames[40].place + 5)
-        answer = made.dwg("recover", given=damaged)
-        ran = tool("dwg-recover", "-", "-", given=damaged)
-        self.assertEqual((ran.returncode, ran.stdout), (1, answer.stdout))
-        self.assertTrue(ran.stderr.startswith(b"standard input is damaged: objects "), ran.stderr)
-        self.assertNotIn(b".notes", ran.stderr)
-        path = self.file("in.dwg", damaged)
-        words = tool("dwg-recover", path, "-")
-        self.assertEqual((words.returncode, words.stdout, words.stderr.split(b"\n")[1:]), (1, answer.stdout, ran.stderr.split(b"\n")[1:]))
-        before = in_bash('dwg-recover --before <(dwg-nothing; cat "$2") "$1" -', path, self.file("older.dwg", data))
-        self.assertIn(b"of the older drawing 1 is not in the recovered one", before.stderr)
-        self.assertEqual(tool("dwg-recover", "--before", "-", "-", "-", given=damaged).returncode, 64)
-        self.assertEqual(tool("dwg-recover", "-", "-", given=b"nothing").returncode, 65)
-        self.assertEqual(tool("dwg-recover", "--before", "", path, "-").returncode, 4)
-        self.assertEqual(sorted(os.listdir(self.folder)), ["in.dwg", "older.dwg"])
-        self.assertFalse(Path("-").exists() or Path("-.notes").exists())
 
 
 class Ends(common.InFolder):
@@ -414,11 +354,9 @@ class Ends(common.InFolder):
                 self.assertEqual(ran.returncode, 0, (name, closed, ran.stderr))
                 self.assertNotIn(b"rror", ran.stderr)
         # No file that is opened takes the place of a stream.
-        out, log = self.folder / "out.json", self.folder / "log"
+        out = self.folder / "out.json"
         self.assertEqual(in_bash('dwg-json "$1" -o "$2" <&- >&- 2>&-', path, out).returncode, 0)
         self.assertEqual(out.read_bytes(), tool("dwg-json", path).stdout)
-        self.assertEqual(in_bash('dwg-check --resume "$2" "$1" <&- >&- 2>&-', path, log).returncode, 0)
-        self.assertEqual(len(log.read_bytes().splitlines()), 2)
         ran = in_bash('dwg-json "$1" 2>&-', self.folder / "none")
         self.assertEqual((ran.returncode, ran.stdout), (4, b""))
 
@@ -445,7 +383,7 @@ class Ends(common.InFolder):
     @unittest.skipUnless(os.path.exists("/dev/full"), "a full disk, as there is no /dev/full")
     def test_full_standard_streams(self) -> None:
         path = self.file("a.dwg", drawn(3, 1))
-        statuses = {"dwg-json": 5, "dwg-picture": 5, "dwg-diff": 0, "dwg-check": 70, "dwg-recover": 5, "dwg-info": 5}
+        statuses = {"dwg-json": 5, "dwg-picture": 5, "dwg-diff": 0, "dwg-info": 5}
         for name, words in ALL.items():
             self.assertEqual(in_bash(f'{name} "$@" >/dev/full 2>/dev/full', *words(path)).returncode, statuses[name], name)
         # What a tool says of itself is an output as any other.
@@ -454,12 +392,6 @@ class Ends(common.InFolder):
                 ran = in_bash(f"{name} {word} >/dev/full")
                 self.assertEqual((ran.returncode, ran.stderr.decode()), (status, f"{name}: standard output can't be written: No space left on device\n"), word)
         self.assertEqual(in_bash('dwg-json "$1" 2>/dev/full', self.folder / "none").returncode, 4)
-        # OUT is there where its report can't be said.
-        ran = in_bash('dwg-recover "$1" "$2" >/dev/full', path, self.folder / "out.dwg")
-        said = f"dwg-recover: standard output can't be written: No space left on device; {self.folder}/out.dwg is there\n"
-        self.assertEqual((ran.returncode, ran.stderr.decode(), (self.folder / "out.dwg").read_bytes()), (5, said, path.read_bytes()))
-        ran = in_bash('dwg-recover "$1" - 2>/dev/full', path)
-        self.assertEqual((ran.returncode, ran.stdout), (5, path.read_bytes()))
         # What can't be said of a picture takes nothing of it away.
         one = spelled.Drawing()
         one.entity(39, "1" * 30)
@@ -497,30 +429,11 @@ class Ends(common.InFolder):
             # Who doesn't read it doesn't care.
             ran = in_bash(f'{name} "$@" < /tmp', *words(path))
             self.assertEqual((ran.returncode, ran.stdout), (0, tool(name, *words(path)).stdout), (name, ran.stderr))
-        for script, status in (("dwg-json", 4), ("dwg-picture", 4), ('dwg-diff - "$1"', 2), ("dwg-recover - -", 4), ("dwg-info", 4), ("dwg-info --preview -", 4), ("dwg-check -", 70)):
+        for script, status in (("dwg-json", 4), ("dwg-picture", 4), ('dwg-diff - "$1"', 2), ("dwg-info", 4), ("dwg-info --preview -", 4)):
             ran = in_bash(f"{script} < /tmp", path)
-            # (a table may have begun before its first name is read)
-            self.assertEqual((ran.returncode, ran.stdout.count(b"\n")), (status, int(script == "dwg-check -")), script)
+            self.assertEqual((ran.returncode, ran.stdout), (status, b""), script)
             self.assertIn(b": standard input: ", ran.stderr)
             self.assertEqual(ran.stderr.count(b"\n"), 1, ran.stderr)
-
-    @unittest.skipUnless(shutil.which("localedef"), "names in a locale of Latin-1, as there is no localedef")
-    def test_names_are_the_same_in_each_locale(self) -> None:
-        locales = self.folder / "locales"
-        locales.mkdir()
-        if subprocess.run(["localedef", "-i", "en_US", "-f", "ISO-8859-1", str(locales / "en_US")], capture_output=True, check=False).returncode:
-            self.skipTest("names in a locale of Latin-1, as localedef makes none")
-        path = self.file("a\u00e9\u20ac.dwg", drawn(3, 1))
-        latin = {"LOCPATH": str(locales), "LC_ALL": "en_US", "PYTHONUTF8": "0"}
-        for name, words in ALL.items():
-            for source in (path, self.folder / "none\u00e9"):
-                told = [tool(name, *words(source), **more) for more in ({"LC_ALL": "C.UTF-8"}, latin)]
-                self.assertEqual(*((ran.returncode, ran.stdout, ran.stderr) for ran in told))
-        # One file is one in LOG.
-        log = self.folder / "log"
-        tables = [tool("dwg-check", "--quiet", "--resume", log, path, **more).stdout for more in ({"LC_ALL": "C.UTF-8"}, latin)]
-        self.assertEqual(tables[0], tables[1])
-        self.assertEqual(len(log.read_bytes().splitlines()), 2)
 
     def end_of(self, name: str, words: Sequence[object], wait: float, to_all: bool) -> int:
         """The status of a tool that is interrupted after a time."""
@@ -533,29 +446,6 @@ class Ends(common.InFolder):
         self.assertNotIn(b"Traceback", errors)
         # A shell says 130 of one that the signal killed, too.
         return 130 if started.returncode == -signal.SIGINT else started.returncode
-
-    def test_an_interrupt_at_any_moment_has_one_status(self) -> None:
-        if subprocess.run(["env", "--block-signal=INT", "true"], capture_output=True, check=False).returncode:
-            self.skipTest("interrupts while Python begins, as env can't block signals")
-        data = drawn(200, 7)
-        path, out = self.file("a.dwg", flipped(data, layout(data).frames[99].place + 5)), self.folder / "out.dwg"
-        chance = random.Random(3)
-        statuses: Dict[int, int] = collections.Counter()
-        for turn in range(60):
-            status = self.end_of("dwg-recover", [path, out], 0.2 * chance.random(), bool(turn % 2))
-            statuses[status] += 1
-            self.assertIn(status, (1, 130))
-            # Status 1 says that OUT is there, and OUT is never there in half.
-            self.assertEqual([one for one in os.listdir(self.folder) if one.endswith(".part")], [])
-            if status == 1 or out.exists():
-                self.assertEqual(out.read_bytes(), made.dwg("recover", given=path.read_bytes()).stdout)
-            for left in (out, self.folder / "out.dwg.notes"):
-                if left.exists():
-                    left.unlink()
-        self.assertGreater(statuses[130], 10)
-        for name in ("dwg-json", "dwg-diff", "dwg-check", "dwg-info"):
-            for _ in range(10):
-                self.assertIn(self.end_of(name, ALL[name](self.file("b.dwg", data)), 0.1 * chance.random(), True), (0, 130))
 
     def test_an_interrupt_that_reaches_the_program_first(self) -> None:
         path = self.file("a.dwg", drawn(20, 1))
@@ -615,10 +505,8 @@ class Ends(common.InFolder):
         for name, words in ALL.items():
             for source in (path, self.folder / f"none{letters}"):
                 ran = tool(name, *words(source), "--" + letters) if source != path else tool(name, *words(source))
-                for said in (ran.stderr, b"" if name in ("dwg-recover", "dwg-picture") else ran.stdout):
+                for said in (ran.stderr, b"" if name == "dwg-picture" else ran.stdout):
                     self.assertFalse(set(letters) & set(said.decode()), (name, said))
-        line = tool("dwg-check", path).stdout.decode().splitlines()[1].split("\t")[0]
-        self.assertEqual(made.unescaped(line), os.fsencode(path))
 
     def test_the_name_of_a_tool_colours_no_terminal(self) -> None:
         for name in ALL:
@@ -640,10 +528,9 @@ class Ends(common.InFolder):
         path = self.file("a.dwg", one.file(2))
         for name, words in ALL.items():
             ran = tool(name, *words(path))
-            said = ran.stderr + (b"" if name in ("dwg-recover", "dwg-picture") else ran.stdout)
+            said = ran.stderr + (b"" if name == "dwg-picture" else ran.stdout)
             self.assertFalse(set(letters) - set("\n]0;t") & set(said.decode()), (name, said))
         self.assertEqual(tool("dwg-picture", path).stderr, f"dwg-picture: {path}: nothing is drawn\ndwg-picture: {path}: not drawn: 1 \\x1b]0;t\\x07\\n\\xc2\\x9b\n".encode())
-        self.assertIn(b"its first is %X, of kind \\x1b]0;t\\x07\\n\\xc2\\x9b, which" % odd, tool("dwg-recover", path, "-").stderr)
 
 
 if __name__ == "__main__":

@@ -1,19 +1,16 @@
-"""Which files of folders dwg-check and dwg-recover take, and which lines and names dwg-check prints."""
+"""Which files of folders dwg-info takes."""
 
 from __future__ import annotations
 
 import fnmatch
-import json
 import os
 import random
-import subprocess
 import unittest
 import unittest.mock
 from typing import Any, List
 
 import common
 import made
-from made import tool
 
 from dwgtools.patterns import compiled, translated
 from dwgtools.walking import DRAWINGS, Walk, endings_of, pattern_of, walked
@@ -83,37 +80,6 @@ class Walks(common.InFolder):
         self.assertEqual(self.found(Walk(follow=True), "plans"), expected)
         # Its other name leads to no more than what wasn't seen yet.
         self.assertEqual(self.found(Walk(follow=True, left_out=(pattern_of("again"),)), "plans")[1], "link/in/far.dwg")
-        ran = tool("dwg-check", "--follow", "--quiet", top, top / "link", elsewhere)
-        self.assertEqual([line.split("\t")[0] for line in ran.stdout.decode().splitlines()[1:]], [str(top / name) for name in expected])
-
-    def test_what_is_left_out_by_one_name_is_found_by_another(self) -> None:
-        """Nothing is found twice, and links in a ring end."""
-        top = self.folder / "d"
-        for name in ("snap/x.dwg", "snap/y.dwg", "snap/old/z.dwg", "snap/old/deep/w.dwg"):
-            (top / name).parent.mkdir(parents=True, exist_ok=True)
-            self.file(f"d/{name}", b"x")
-        (top / "current").symlink_to("snap")
-        (top / "snap" / "old" / "ring").symlink_to("../..")
-        whole = ["snap/old/deep/w.dwg", "snap/old/z.dwg", "snap/x.dwg", "snap/y.dwg"]
-
-        def found(*words: str, more: str = "") -> List[str]:
-            ran = tool("dwg-check", "--quiet", "--follow", "--print0", *(one for word in words for one in ("--exclude", word)), top, *([top / more] if more else []))
-            self.assertNotIn(b"Traceback", ran.stderr)
-            return [os.path.relpath(os.fsdecode(name), top) for name in ran.stdout.split(b"\0")[:-1]]
-
-        for words, expected in (
-            (("current",), whole),
-            (("current/*",), whole),
-            (("current/old", "x.dwg"), ["current/y.dwg", *whole[:2]]),
-            (("current/old/z.dwg",), ["current/old/deep/w.dwg", "current/x.dwg", "current/y.dwg", "snap/old/z.dwg"]),
-            (("*/z.dwg", "current/old/deep/*"), ["current/x.dwg", "current/y.dwg", "snap/old/deep/w.dwg"]),
-            (("current/*", "snap/*"), []),
-        ):
-            self.assertEqual(sorted(found(*words)), sorted(expected), words)
-        self.assertEqual(found("current/x.dwg", "*/ring", "snap/*")[:2], ["current/old/deep/w.dwg", "current/old/z.dwg"])
-        # By a word of its own too.
-        self.assertEqual(sorted(found("current", "snap/*", "*ring", more="snap")), whole)
-        self.assertEqual(sorted(found("current", "snap/old/deep", "*ring", more="snap/old")), whole)
 
     def test_folders_of_one_number_are_two(self) -> None:
         """As on file systems that show several as one."""
@@ -134,9 +100,6 @@ class Walks(common.InFolder):
             (top / link).symlink_to(target)
         self.assertEqual(self.found(Walk(), "plans"), ["a.dwg", "old.dwg", "x y.dwg"])
         self.assertEqual(self.found(Walk(follow=True), "plans"), ["a.dwg", "away", "loop", "old.dwg", "through", "x y.dwg"])
-        ran = tool("dwg-check", "--follow", "--quiet", "--only", "unreadable", top)
-        told = [line.split("\t")[:3] for line in ran.stdout.decode().splitlines()[1:]]
-        self.assertEqual((ran.returncode, told), (1, [[str(top / name), "unreadable", os.strerror(number)] for name, number in (("away", 2), ("loop", 40), ("through", 20))]))
 
     def test_a_tree_of_links_is_no_more_work_than_its_folders(self) -> None:
         """Forty folders with links to all of them have more ways through them than can be walked."""
@@ -147,79 +110,6 @@ class Walks(common.InFolder):
                 (top / f"{at}" / f"to {other}").symlink_to(f"../{other}")
         self.file("many/7/a.dwg", b"x")
         self.assertEqual(len(self.found(Walk(follow=True), "many")), 1)
-
-
-class Trees(common.InFolder):
-    """What dwg-recover takes of folders."""
-
-    def test_a_tree_of_backups(self) -> None:
-        data = made.made(3)
-        for name in ("plans/a.BAK", "plans/old/b.bak", "plans/c.dwg", "plans/x.bak"):
-            (self.folder / name).parent.mkdir(parents=True, exist_ok=True)
-            self.file(name, made.flipped(data, made.layout(data).frames[9].place + 4))
-        words = ("--quiet", "--tree", self.folder / "out")
-        ran = tool("dwg-recover", *words, "--ext", "bak", "--exclude", "old", "--exclude", "plans/x*", "--exclude", "x*", self.folder / "plans")
-        self.assertEqual((ran.returncode, [line.split("\t")[0] for line in ran.stdout.decode().splitlines()[1:]]), (1, [str(self.folder / "plans" / "a.BAK")]))
-        self.assertTrue((self.folder / "out" / "plans" / "a.BAK.notes").exists())
-        ran = tool("dwg-recover", *words, "--ext", "dwt", self.folder / "plans")
-        self.assertEqual((ran.returncode, ran.stderr), (66, b"dwg-recover: nothing was found to recover; of folders only *.dwt is taken, and --all takes every file\n"))
-        for wrong in ([*words, "--ext", "dwg", "--all", "x"], ["--ext", "dwg", "a", "b"], ["--exclude", "x", "a", "b"]):
-            self.assertEqual(tool("dwg-recover", *wrong).returncode, 64, wrong)
-
-
-class Lines(common.InFolder):
-    """Which lines and which names are printed."""
-
-    def setUp(self) -> None:
-        super().setUp()
-        (self.folder / "d").mkdir()
-        self.odd = os.fsdecode(b"o\xffd\n.dwg")
-        for name, data in (("a.dwg", made.made(3)), (self.odd, made.made(3)[:-1]), ("t.dwg", made.made(3) + b"\0"), ("z.dwg", b"AC1032" + bytes(9))):
-            self.file(f"d/{name}", data)
-
-    def said(self, *words: object) -> "subprocess.CompletedProcess[bytes]":
-        """What a run over the folder answers."""
-        return tool("dwg-check", *words, "--", self.folder / "d")
-
-    def test_only(self) -> None:
-        whole = self.said()
-        head, a, odd, t, z = whole.stdout.splitlines(keepends=True)
-        for words, expected in ((["damaged"], odd), (["trailing bytes,sound"], a + t), (["unsound"], b"")):
-            ran = self.said("--only", *words)
-            self.assertEqual((ran.returncode, ran.stdout, ran.stderr), (1, head + expected, whole.stderr), words)
-        ran = self.said("--json", "--only", "other version")
-        self.assertEqual([json.loads(line)["verdict"] for line in ran.stdout.splitlines()], ["other version"])
-        # LOG has all.
-        log = self.folder / "log"
-        self.assertEqual(self.said("--resume", log, "--only", "damaged").stdout, head + odd)
-        self.assertEqual(len(log.read_bytes().splitlines()), 5)
-        ran = self.said("--fixity", log, "--verify", "--only", "changed,missing")
-        self.assertEqual((ran.returncode, ran.stdout), (68, b"path\tverdict\tdetail\tbytes\tsha256\n"))
-
-    def test_print0(self) -> None:
-        names = lambda *those: b"".join(os.fsencode(self.folder / "d" / name) + b"\0" for name in those)
-        every = ("a.dwg", self.odd, "t.dwg", "z.dwg")
-        for words, expected in (
-            (["--print0"], names(*every)),
-            (["--print0", "all"], names(*every)),
-            (["--print0", "damaged"], names(self.odd)),
-            (["--print0", "damaged,trailing bytes"], names(self.odd, "t.dwg")),
-            (["--print0=sound"], names("a.dwg")),
-            (["--print0", "--only", "other version,damaged"], names(self.odd, "z.dwg")),
-        ):
-            ran = self.said("--quiet", *words)
-            self.assertEqual((ran.returncode, ran.stdout, ran.stderr), (1, expected, b""), words)
-
-    def test_words(self) -> None:
-        wrong: List[List[Any]] = [["--only", "nothing"], ["--only", ""], ["--only", "sound,"], ["--print0=", "x"], ["--print0", "x", "--only", "sound"], ["--print0", "sound", "--only", "sound"]]
-        wrong += [["--json", "--print0"], ["--ext", ""], ["--ext", "dwg", "--all"], ["--exclude", ""], ["--exclude", "/"], ["--print0", "damagd"]]
-        for words in wrong:
-            self.assertEqual((lambda ran: (ran.returncode, ran.stdout))(self.said(*words)), (64, b""), words)
-
-    def test_nothing_is_found(self) -> None:
-        ran = self.said("--quiet", "--ext", ".dwt,bak")
-        self.assertEqual((ran.returncode, ran.stderr), (66, b"dwg-check: nothing was found to check; of folders only *.dwt, *.bak is taken, and --all takes every file\n"))
-        self.assertEqual(self.said("--quiet", "--exclude", "*", "--all").stderr, b"dwg-check: nothing was found to check\n")
 
 
 class Translated(unittest.TestCase):

@@ -1,0 +1,1 @@
+"""What a file is: the verdicts of dwg-check, and its table."""
