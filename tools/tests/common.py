@@ -99,11 +99,11 @@ class InFolder(unittest.TestCase):
         endless = program_that(self.folder, "endless", ['[ "$1" != drill ] || exit 0', '"$REAL" show', f"touch {begun}", "exec sleep 60"])
         said = [sys.executable, str(TOOLS / name), "--program", str(endless), *map(str, words)]
         with subprocess.Popen(said, stdin=subprocess.DEVNULL, stdout=subprocess.PIPE, stderr=subprocess.PIPE) as started:
-            end = time.monotonic() + 30
+            end = time.monotonic() + 600
             while not begun.exists() and time.monotonic() < end:
                 time.sleep(0.02)
             started.send_signal(signal.SIGINT)
-            started.communicate(timeout=30)
+            started.communicate(timeout=600)
         begun.unlink()
         endless.unlink()
         return started.returncode

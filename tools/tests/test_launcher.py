@@ -158,7 +158,7 @@ class InTree(unittest.TestCase):
     def run_it(self, *words: str, **more: str) -> "subprocess.CompletedProcess[bytes]":
         """Runs the launcher on an input."""
         started = self.start(*words, **more)
-        out, said = started.communicate(b"input", timeout=60)
+        out, said = started.communicate(b"input", timeout=600)
         return subprocess.CompletedProcess(words, started.returncode, out, said)
 
     def count_of_runs(self) -> int:
@@ -277,7 +277,7 @@ class Building(InTree):
         child = pathlib.Path(f"{self.runs}.child")
         self.wait_for(child if "SLEEP" in more else self.program)
         (os.killpg if to_group else os.kill)(started.pid, number)
-        _, said = started.communicate(timeout=20)
+        _, said = started.communicate(timeout=600)
         self.assertIn(b"dwg: the build was interrupted", said)
         if "SLEEP" in more:
             self.assertFalse(is_running(int(child.read_text())))
@@ -323,8 +323,8 @@ class Building(InTree):
         first = self.start("first", SLEEP="1", **dict(more))
         self.wait_for(self.runs)
         second = self.start("second", SLEEP="1", **dict(more))
-        out2, said2 = second.communicate(b"input", timeout=60)
-        out1, _ = first.communicate(b"input", timeout=60)
+        out2, said2 = second.communicate(b"input", timeout=600)
+        out1, _ = first.communicate(b"input", timeout=600)
         self.assertEqual((first.returncode, out1), (3, b"first\ninput"))
         self.assertEqual((second.returncode, out2), (3, b"second\ninput"))
         self.assertIn(b"dwg: waiting for another build", said2)
@@ -339,9 +339,9 @@ class Building(InTree):
         second = self.start("second")
         time.sleep(0.5)
         os.killpg(second.pid, signal.SIGINT)
-        second.communicate(timeout=20)
+        second.communicate(timeout=600)
         self.assertEqual(second.returncode, 130)
-        out, _ = first.communicate(b"input", timeout=60)
+        out, _ = first.communicate(b"input", timeout=600)
         self.assertEqual((first.returncode, out, self.count_of_runs()), (3, b"first\ninput", 1))
 
     def path_without_flock(self) -> str:
@@ -385,7 +385,7 @@ class Unproved(InTree):
             assert started.stdin is not None and started.stdout is not None and started.stderr is not None
             out, said = started.stdout.read(), started.stderr.read()
             started.stdin.close()
-            self.expect_unproved(subprocess.CompletedProcess(words, started.wait(timeout=20), out, said), " ".join(words))
+            self.expect_unproved(subprocess.CompletedProcess(words, started.wait(timeout=600), out, said), " ".join(words))
             started.stdout.close()
             started.stderr.close()
 
@@ -496,7 +496,7 @@ class Unproved(InTree):
             started.stdin.flush()
             time.sleep(0.5)
         (os.killpg if to_group else os.kill)(started.pid, number)
-        out, said = started.communicate(timeout=20)
+        out, said = started.communicate(timeout=600)
         self.assertEqual((out, said.count(b"\n")), (b"", 1), said)
         self.assertEqual(list(self.temporary.iterdir()), [])
         if "SLEEP" in more:
@@ -523,7 +523,7 @@ class Unproved(InTree):
     def test_nobody_reads_what_it_says(self) -> None:
         for script, status in (('"$0" show < /', 5), ('BROKEN="run=none proved=no" "$0" show </dev/null', 70), ('"$0" show </dev/null', 5)):
             told = f"{{ sleep 1; {script}; echo $? >&3; }} 2>&1 >/dev/null 3>'{self.folder}/status' | true"
-            subprocess.run(["bash", "-c", told, str(self.tree / "dwg")], env=self.environment({}), check=True, timeout=60)
+            subprocess.run(["bash", "-c", told, str(self.tree / "dwg")], env=self.environment({}), check=True, timeout=600)
             self.assertEqual((self.folder / "status").read_text(), f"{status}\n", script)
             self.assertEqual(list(self.temporary.iterdir()), [])
 
@@ -531,7 +531,7 @@ class Unproved(InTree):
         first = self.start("first", DWG_BUILD="1", SLEEP="1")
         self.wait_for(self.runs)
         self.expect_unproved(self.run_it("show"), "show", "input")
-        first.communicate(b"", timeout=60)
+        first.communicate(b"", timeout=600)
         self.assertEqual(first.returncode, 3)
 
     def test_version(self) -> None:
@@ -641,7 +641,7 @@ class SameAsBuilt(Compared):
                 os.close(theirs)
                 # A line, and the end of the input at the beginning of the next.
                 os.write(ours, b"no drawing\n\x04")
-                out, said = started.communicate(timeout=60)
+                out, said = started.communicate(timeout=600)
             os.close(ours)
             self.assertEqual((started.returncode, out, said.splitlines()[-1]), (3, b"", b"dwg: refused: header 0 at 11: short"))
 

@@ -80,7 +80,7 @@ subprocess.Popen = start
 def otherwise(name: str, lines: str, *words: object, stdin: Union[int, IO[bytes]] = subprocess.DEVNULL) -> "subprocess.CompletedProcess[bytes]":
     """What a tool answers in such a Python."""
     code = OTHERWISE.format(tests=str(TOOLS / "tests"), name=name, lines=lines)
-    return subprocess.run([sys.executable, "-B", "-c", code, *map(str, words)], stdin=stdin, capture_output=True, check=False, timeout=100)
+    return subprocess.run([sys.executable, "-B", "-c", code, *map(str, words)], stdin=stdin, capture_output=True, check=False, timeout=600)
 
 
 def rows(table: bytes) -> List[List[str]]:
@@ -192,7 +192,7 @@ def is_running(number: int) -> bool:
 
 def ended(number: int) -> bool:
     """Whether a process ends in a moment: a signal that is sent need not have come yet."""
-    end = time.monotonic() + 10
+    end = time.monotonic() + 120
     while is_running(number) and time.monotonic() < end:
         time.sleep(0.01)
     return not is_running(number)

@@ -48,7 +48,7 @@ ALL: Dict[str, Callable[[object], List[object]]] = {
 def in_bash(script: str, *words: object, **more: Any) -> "subprocess.CompletedProcess[bytes]":
     """What a script of bash gives, in which the tools are on the path."""
     environment = {**os.environ, "DWG": made.PROGRAM, "PATH": f"{TOOLS}:{os.environ['PATH']}"}
-    return subprocess.run(["bash", "-c", script, "bash", *map(str, words)], capture_output=True, check=False, env=environment, timeout=100, **more)
+    return subprocess.run(["bash", "-c", script, "bash", *map(str, words)], capture_output=True, check=False, env=environment, timeout=600, **more)
 
 
 # Makes so many temporary files, and then there is no place for one.
@@ -135,7 +135,7 @@ class Outputs(common.InFolder):
             self.assertEqual(tool(name, "--program", noting, *words(path, out)).returncode, 73)
             # Nor is standard input read, which would never end here.
             with subprocess.Popen([str(TOOLS / name), *map(str, words("-", out))], stdin=subprocess.PIPE, stderr=subprocess.PIPE) as started:
-                self.assertEqual(started.wait(timeout=20), 73)
+                self.assertEqual(started.wait(timeout=600), 73)
         self.assertEqual((out.read_bytes(), (self.folder / "runs").exists()), (b"old", False))
 
     def test_a_full_disk_leaves_no_temporary_file(self) -> None:
@@ -442,7 +442,7 @@ class Ends(common.InFolder):
         with subprocess.Popen(said, stdin=subprocess.DEVNULL, stdout=subprocess.PIPE, stderr=subprocess.PIPE, start_new_session=True, env=environment) as started:
             time.sleep(wait)
             (os.killpg if to_all else os.kill)(started.pid, signal.SIGINT)
-            _, errors = started.communicate(timeout=30)
+            _, errors = started.communicate(timeout=600)
         self.assertNotIn(b"Traceback", errors)
         # A shell says 130 of one that the signal killed, too.
         return 130 if started.returncode == -signal.SIGINT else started.returncode
@@ -464,7 +464,7 @@ class Ends(common.InFolder):
                 started.stdout.read(1)
                 time.sleep(1)
                 started.send_signal(number)
-                self.assertEqual(started.wait(timeout=20), status)
+                self.assertEqual(started.wait(timeout=600), status)
 
     def test_a_signal_that_is_ignored_stays_so(self) -> None:
         path = self.file("a.dwg", drawn(3, 1))

@@ -32,7 +32,7 @@ def waiting_in(pipe: int) -> int:
     return int(struct.unpack("i", fcntl.ioctl(pipe, termios.FIONREAD, b"\0" * 4))[0])
 
 
-def is_soon(holds: Callable[[], bool], seconds: float = 20) -> bool:
+def is_soon(holds: Callable[[], bool], seconds: float = 120) -> bool:
     """Whether something comes to hold in a time."""
     end = time.monotonic() + seconds
     while not holds():
@@ -54,7 +54,7 @@ def in_bash(script: str, folder: Path, program: Path) -> "subprocess.CompletedPr
     """What a script of bash gives in a folder, in which the tools are on the path and run a program."""
     environment = {**os.environ, "DWG": str(program), "PATH": f"{TOOLS}:{os.environ['PATH']}"}
     said = ["bash", "-c", script]
-    return subprocess.run(said, cwd=folder, stdin=subprocess.DEVNULL, capture_output=True, check=False, env=environment, timeout=100)
+    return subprocess.run(said, cwd=folder, stdin=subprocess.DEVNULL, capture_output=True, check=False, env=environment, timeout=600)
 
 
 class Paused(common.InFolder):
@@ -87,7 +87,7 @@ class Paused(common.InFolder):
             self.assertFalse(os.get_blocking(end))
             os.close(begin)
             os.close(end)
-            said, _ = started.communicate(timeout=60)
+            said, _ = started.communicate(timeout=600)
         return started.returncode, said
 
     def test_a_drawing_that_pauses(self) -> None:
@@ -105,7 +105,7 @@ class Paused(common.InFolder):
             time.sleep(0.5)
             self.assertIsNone(started.poll())
             fifo.write_bytes(self.data)
-            said, _ = started.communicate(timeout=60)
+            said, _ = started.communicate(timeout=600)
         os.close(end)
         self.assertEqual((started.returncode, said), (0, tool("dwg-json", self.path).stdout))
 
@@ -121,7 +121,7 @@ class Paused(common.InFolder):
             os.close(begin)
             with open(end, "rb") as pipe:
                 said = pipe.read()
-            return started.wait(timeout=60), said
+            return started.wait(timeout=600), said
 
     @unittest.skipUnless(sys.platform == "linux", "pipes that hold little, which only Linux has")
     def test_an_output_that_pauses(self) -> None:
@@ -154,7 +154,7 @@ class Paused(common.InFolder):
             time.sleep(0.2)
             self.assertIsNone(started.poll())
             started.send_signal(signal.SIGINT)
-            self.assertEqual(started.wait(timeout=20), 130)
+            self.assertEqual(started.wait(timeout=600), 130)
         os.close(begin)
         os.close(end)
 

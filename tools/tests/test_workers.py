@@ -90,13 +90,13 @@ class Workers(common.InFolder):
             with subprocess.Popen(words, stdin=subprocess.DEVNULL, stderr=subprocess.PIPE, start_new_session=True) as started:
                 while not begun.exists():
                     time.sleep(0.02)
-                end = time.monotonic() + 20
+                end = time.monotonic() + 600
                 while len(left_in(started.pid)) < 5 and time.monotonic() < end:
                     time.sleep(0.02)
                 self.assertEqual(len(left_in(started.pid)), 5)
                 os.kill(started.pid, number)
-                started.wait(timeout=30)
-                end = time.monotonic() + 20
+                started.wait(timeout=600)
+                end = time.monotonic() + 600
                 while left_in(started.pid) and time.monotonic() < end:
                     time.sleep(0.02)
                 self.assertEqual((started.returncode, left_in(started.pid), self.out.exists()), (status, {}, False))

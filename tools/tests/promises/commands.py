@@ -31,7 +31,7 @@ USAGE, FAILURE = 2, 70
 REFUSED = (USAGE, FAILURE)
 
 # How many seconds a command may take at the most: a tool that hangs fails its test.
-PATIENCE = 120
+PATIENCE = 600
 
 Word = Union[str, bytes, Path]
 

@@ -174,7 +174,7 @@ class Outputs(Commands):
             started = self.begun("dwg-recover", "--program", waiting, self.source, "out.dwg")
             self.until(begun.exists)
             os.killpg(started.pid, number)
-            started.communicate(timeout=20)
+            started.communicate(timeout=600)
             self.assertIn(started.returncode, statuses)
             self.assertEqual([*entries(self.folder)], ["in.dwg"])
             begun.unlink()

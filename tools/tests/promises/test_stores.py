@@ -163,7 +163,7 @@ class Stores(Counted):
         self.assertEqual((ran.status in REFUSED, "store" in ran.said), (True, True), ran)
         self.assertIn(self.check("forget", "store", "0.dwg").status, REFUSED)
         (self.top / "go").touch()
-        first.communicate(timeout=60)
+        first.communicate(timeout=600)
         self.assertEqual(self.check("export", "store").out, self.exported)
         with database(self.store) as other:
             other.execute("BEGIN EXCLUSIVE")
@@ -176,7 +176,7 @@ class Stores(Counted):
         ran = self.recover("--tree", "out", "archive")
         self.assertEqual((ran.status in REFUSED, "out" in ran.said), (True, True), ran)
         (self.top / "go").touch()
-        out, _ = first.communicate(timeout=60)
+        out, _ = first.communicate(timeout=600)
         self.assertEqual(Ran(0, out, "").verdicts["spoiled.dwg"], "recovered")
 
     def test_a_full_disk_is_told(self) -> None:
