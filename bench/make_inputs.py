@@ -325,6 +325,49 @@ def begin_sentinels(count):
     return b"".join(sections) + bytes(255 - byte for byte in VARIABLES)
 
 
+def bytes_between(word, wanted):
+    """The two bytes that bring a check word to the one that is wanted."""
+    second = next(at for at in range(256) if TABLE[at] >> 8 == wanted >> 8)
+    low = (wanted ^ TABLE[second]) & 0xFF
+    first = next(at for at in range(256) if TABLE[at] >> 8 == low)
+    return bytes([(word ^ first) & 0xFF, second ^ (word >> 8 ^ TABLE[first]) & 0xFF])
+
+
+def nested_frames(size, version, reactors):
+    """DICTIONARYs with right check words, each in the one before: half of these bytes are references of all, and none stands after them.
+
+    Two bytes of each bring the check word to where it began, so all have one word there, and after it 0 before each byte 0.
+    """
+    head = 28 if version == "AC1015" else 24
+    count = size // 2 // (head + 3)
+    references = bytes(size // 2 - 1) + b"\x7F"
+    out = bytearray()
+    for at in range(count):
+        behind = (count - at) * (head + 2) - 4
+        before = short(42) + (little(8 * behind, 4) if version == "AC1015" else "") + f"{0:04b}{3:04b}{at + 1:024b}" + short(0)
+        own = before + (little(8 * behind, 4) if version == "AC1014" else "") + long(reactors)
+        long_form = behind + len(references) + 2 + count - at - 2
+        sized = (0x8000 | long_form & 0x7FFF).to_bytes(2, "little") + (long_form >> 15).to_bytes(2, "little")
+        begun = sized + packed(own).ljust(head - 4, b"\x00")
+        out += begun + bytes_between(check(0xC0C1, begun), 0xC0C1)
+    return bytes(out) + references + check(0xC0C1, references).to_bytes(2, "little") + bytes(count)
+
+
+def nested(size):
+    """No drawing, but frames in each other, each of which turns out to have no form by its last reference."""
+    return nested_frames(size, "AC1015", 0)
+
+
+def nested_older(size):
+    """The same for AC1014, which the first bytes alone name."""
+    return b"AC1014" + nested_frames(size, "AC1014", 0)
+
+
+def nested_reactors(size):
+    """The same with a header and an empty map, whose check word is wrong; here the references are those of reactors."""
+    return drawing(nested_frames(size, "AC1015", size), lambda start: page(b"")[:2] + bytes(2))
+
+
 INPUTS = {
     "objects": (many_objects, (100_000, 200_000)),
     "plain": (plain_entities, (100_000, 200_000)),
@@ -342,6 +385,9 @@ INPUTS = {
     "one-byte": (one_byte, (1_048_576, 2_097_152)),
     "lost-page": (lost_page, (100_000, 200_000)),
     "sentinels": (begin_sentinels, (25_000, 50_000)),
+    "nested": (nested, (44_000, 88_000)),
+    "nested-older": (nested_older, (44_000, 88_000)),
+    "nested-reactors": (nested_reactors, (44_000, 88_000)),
 }
 
 if __name__ == "__main__":
