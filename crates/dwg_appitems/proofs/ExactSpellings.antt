@@ -24,7 +24,7 @@ use Rattle.dwg_appitems.proofs.VariantLemmas.{of_chosen}
 use Rattle.dwg_appitems.proofs.ItemLemmas.{marked, marked_is_code, byte_below_two, three_words, three_words_is_code, item_by_is_code, own_code}
 
 -- a value has no spelling but the one that is written of it
-abbrev IsExact : {V : Type 0} → Grammar Bool V → Type 0
+abbrev pub IsExact : {V : Type 0} → Grammar Bool V → Type 0
 IsExact {V} code = (value : V) (prefix : List Bool) → code.Spells value prefix → prefix ≡ code.short value
 
 -- so have so many bits
@@ -116,7 +116,7 @@ after_exact code =
     (λ not. of_chosen IsExact (code == 71) _ _ (λ at. variant_exact Long long_in rl rl_exact (λ held. refl)) (λ not value prefix spelled. absurd spelled)))))))))
 
 -- an item
-item_exact : IsExact item
+pub item_exact : IsExact item
 unfolding item
 item_exact value letters (code, prefix, back, tagged, spelled, same) =
     let own : code_of value ≡ code = (own_code code value ((item_by_is_code code).value back value spelled)).0 in

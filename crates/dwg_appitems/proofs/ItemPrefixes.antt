@@ -22,7 +22,7 @@ pub bits_split : (bytes : List ℕ) (n : ℕ) → bits bytes ≡ bits (take n by
 bits_split bytes n = ap bits (sym (take-append-drop n bytes)) ∙ bits_joined (take n bytes) (drop n bytes)
 
 -- a prefix of so many bytes is the bits of the first so many
-prefix_of_bytes : (bytes : List ℕ) (prefix rest : List Bool) (n : ℕ) → bits bytes ≡ prefix ++ rest → length prefix ≡ 8 * n → (n ≤ length bytes) × (prefix ≡ bits (take n bytes))
+pub prefix_of_bytes : (bytes : List ℕ) (prefix rest : List Bool) (n : ℕ) → bits bytes ≡ prefix ++ rest → length prefix ≡ 8 * n → (n ≤ length bytes) × (prefix ≡ bits (take n bytes))
 prefix_of_bytes bytes prefix rest n same counted =
     let within : n ≤ length bytes = omega (arith, counted, ap length same, length-append prefix rest, length_of_bits bytes) in
     let long : length (bits (take n bytes)) ≡ 8 * n = length_of_bits (take n bytes) ∙ ap (λ m. 8 * m) (length-take-le n bytes within) in

@@ -13,4 +13,7 @@ pub mod NumberedFindings
 pub mod FindingOrder
 pub mod AppFindingLaws
 pub mod OrderedFindings
+pub mod OneFindings
+pub mod TableRows
+pub mod ItemTable
 pub mod LookupSteps

@@ -1,4 +1,4 @@
--- The findings of items are exactly their references that lead nowhere, and stand in order.
+-- The findings of items are exactly their references that lead nowhere, and stand in order; no other list has just these in that order.
 use Rattle.std.specs.Prelude.{◌≡◌, ◌↔◌, List, [], Contains, AllPairs}
 use Rattle.dwg_graph.specs.Places.{Ascend, handles_of}
 use Rattle.dwg_object.specs.Objects.{ObjectValue}
@@ -17,3 +17,9 @@ NothingIsFoundIfNothingFails = (objects : List ObjectValue) → (app_findings ob
 -- what is found of objects whose handles ascend stands in order, each strictly before those after it
 abbrev pub AppFindingsAreOrdered : Type 0
 AppFindingsAreOrdered = (objects : List ObjectValue) → Ascend (handles_of objects) → AllPairs StandsBefore (app_findings objects)
+
+-- a list that has just the references of items of objects that lead nowhere, each strictly before those after it, is what is found of these objects
+abbrev pub AppFindingsAreDetermined : Type 0
+AppFindingsAreDetermined =
+    (objects : List ObjectValue) (list : List AppFinding) → Ascend (handles_of objects)
+    → ((finding : AppFinding) → Contains list finding ↔ IsAppFinding objects finding) → AllPairs StandsBefore list → list ≡ app_findings objects

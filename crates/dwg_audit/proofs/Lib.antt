@@ -1,5 +1,6 @@
 pub mod FindingLaws
 pub mod FindingOrder
+pub mod OneFindings
 pub mod FindingTests
 pub mod Homes
 pub mod LookupSteps

@@ -8,7 +8,7 @@ pub mod Lookups
 pub mod Auditable
 -- The findings of a drawing whose handles ascend are exactly its failures, and there are none exactly where it is sound.
 pub mod FindingLaws
--- The findings of a drawing stand in order, each strictly before those after it.
+-- The findings of a drawing stand in order, each strictly before those after it, and no other list has just these in that order.
 pub mod FindingOrder
 -- The slots of applications, and all others.
 pub mod Held

@@ -6,6 +6,7 @@ pub mod RightReported
 pub mod Reported
 pub mod Ranks
 pub mod ChainPlaces
+pub mod Agreeing
 pub mod AcceptedOfSound
 pub mod FormBytes
 pub mod NumberPieces

@@ -34,7 +34,7 @@ unfolding next_step
 block_next objects handle x after found next = step_leads objects next_of handle x after found next
 
 -- accepted ranks fall along owners to roots
-ranks_fall_to_roots : (objects : List ObjectValue) (cert : List Entry) → Ascend (handles_of objects) → Accepts objects cert
+pub ranks_fall_to_roots : (objects : List ObjectValue) (cert : List Entry) → Ascend (handles_of objects) → Accepts objects cert
     → FallToGoals (owner_step objects (spaces objects)) (root_at objects (spaces objects)) (rank_at cert)
 ranks_fall_to_roots objects cert ascend is = record {
   ends = λ handle ranked. let x = object_of_rank objects cert handle 0 is.handles ranked in
@@ -52,7 +52,7 @@ path_of_accepted objects cert ascend is x inside typed =
     path_of_number (owner_step objects (spaces objects)) (root_at objects (spaces objects)) (rank_at cert) (ranks_fall_to_roots objects cert ascend is) (handle_of x) ranked.0 ranked.1
 
 -- places that are right rise along the members of a block from one end to the other
-places_rise_along : (objects : List ObjectValue) (cert : List Entry) (block : ObjectValue) (ends : EndHandles) → Ascend (handles_of objects) → AreInPlace objects cert block ends
+pub places_rise_along : (objects : List ObjectValue) (cert : List Entry) (block : ObjectValue) (ends : EndHandles) → Ascend (handles_of objects) → AreInPlace objects cert block ends
     → RiseAlong (map handle_of (members_of objects block)) (next_step objects) (λ handle. handle == ends.first) (λ handle. handle == ends.last) (place_at cert)
 places_rise_along objects cert block ends ascend are = record {
   begins = (ends.first, among ends.first 0 are.first, (Decides-eqb ends.first ends.first).1 refl, are.first.placed);

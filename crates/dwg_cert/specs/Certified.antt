@@ -1,8 +1,8 @@
 -- The certificate of a drawing's objects: how many owners lead from each to a root, and where it stands in the chain of its block. A rule of this project.
 use Rattle.std.specs.Prelude.{◌≡◌, ◌-◌, ◌==◌, ◌↔◌, ℕ, List, length, map, Option, Some, None, IsTrue, Contains, if◌then◌else◌}
-use Rattle.std.specs.List.{slice_get}
+use Rattle.std.specs.List.{AllByRecursion, slice_get}
 use Rattle.std.specs.Option.{option_and_then, option_map}
-use Rattle.dwg_cert.specs.Accepts.{Accepts}
+use Rattle.dwg_cert.specs.Accepts.{rank_at, place_at, members_of, Accepts}
 use Rattle.dwg_cert.specs.declared.entry.Entry.{Entry}
 use Rattle.dwg_graph.specs.Graph.{object_at, is_header, is_member, owner_step, next_step, root_at, member_at, EndHandles, ends_of}
 use Rattle.dwg_graph.specs.Owners.{spaces, owner_of}
@@ -10,6 +10,7 @@ use Rattle.dwg_graph.specs.Placed.{place_in}
 use Rattle.dwg_graph.specs.Places.{Ascend, handles_of}
 use Rattle.dwg_graph.specs.Sound.{IsSound}
 use Rattle.dwg_object.specs.Objects.{ObjectValue, handle_of}
+use Rattle.dwg_object.specs.Written.{IsWhole}
 use Rattle.dwg_chains.specs.Paths.{HasRank, IsChain}
 use Rattle.dwg_chains.specs.Ways.{way}
 
@@ -69,3 +70,14 @@ AcceptedIsSound = (objects : List ObjectValue) (cert : List Entry) → Ascend (h
 -- the certificate of a sound drawing is accepted
 abbrev pub SoundIsAccepted : Type 0
 SoundIsAccepted = (objects : List ObjectValue) → Ascend (handles_of objects) → IsSound objects → Accepts objects (certificate_of objects)
+
+-- accepted certificates of the same whole objects agree on ranks: where both give the object of a handle one, it is the same
+abbrev pub AcceptedRanksAgree : Type 0
+AcceptedRanksAgree = (objects : List ObjectValue) (cert other : List Entry) (handle rank also : ℕ) → Ascend (handles_of objects) → AllByRecursion IsWhole objects
+    → Accepts objects cert → Accepts objects other → rank_at cert handle ≡ Some rank → rank_at other handle ≡ Some also → rank ≡ also
+
+-- and they agree on the places of the members of each Typed BLOCK HEADER
+abbrev pub AcceptedPlacesAgree : Type 0
+AcceptedPlacesAgree = (objects : List ObjectValue) (cert other : List Entry) (block x : ObjectValue) (place also : ℕ) → Ascend (handles_of objects)
+    → Accepts objects cert → Accepts objects other → Contains objects block → IsTrue (is_header block) → Contains (members_of objects block) x
+    → place_at cert (handle_of x) ≡ Some place → place_at other (handle_of x) ≡ Some also → place ≡ also

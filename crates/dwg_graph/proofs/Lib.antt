@@ -7,6 +7,7 @@ pub mod FieldLists
 pub mod Keyed
 pub mod ObjectPaths
 pub mod ListLemmas
+pub mod OrderedLists
 pub mod Tests
 pub mod PlacedObjects
 pub mod PlacedPaths

@@ -1,5 +1,10 @@
-//! Laws of slots, and of paths and chains, as the contracts of functions without code.
+//! Laws of slots, of paths and chains, and of the tables of kinds and fields, as the contracts of functions without code.
 
+ghost use Rattle.std.specs.Prelude.{◌≡◌};
+ghost use Rattle.dwg_kinds.specs.declared.field.Field.{Field};
+ghost use Rattle.dwg_kinds.specs.declared.kind.Kind.{Kind};
+ghost use Rattle.dwg_kinds.specs.Kinds.{row_of};
+ghost use Rattle.dwg_kinds.specs.Needs.{row_of_field};
 ghost use Rattle.dwg_graph.specs.ObjectPaths.{PathsAreOfObjects, ChainsAreOfObjects, AscendingAreDistinct};
 ghost use Rattle.dwg_graph.specs.SlotLaws.{SlotsAreHeld, OwnersAreHeld, NoneIsLeftOut, SlotsAreFew, SlotsAscend};
 
@@ -23,4 +28,10 @@ pub fn graph_laws()
     ensures paths { PathsAreOfObjects }
     ensures chains { ChainsAreOfObjects }
     ensures distinct { AscendingAreDistinct }
+{}
+
+/// What holds of the tables of kinds and of fields: the row that a kind has is its own, and so is that of a field.
+pub fn row_laws()
+    ensures kinds { (kind : Kind) → (row_of kind).kind ≡ kind }
+    ensures fields { (field : Field) → (row_of_field field).field ≡ field }
 {}

@@ -1,4 +1,5 @@
 use Rattle.dwg_cert.proofs.AcceptedOfSound.{sound_is_accepted}
+use Rattle.dwg_cert.proofs.Agreeing.{ranks_agree, places_agree}
 use Rattle.dwg_cert.proofs.ChainPlaces.{places_are_in_chains}
 use Rattle.dwg_cert.proofs.Ranks.{ranks_are_steps}
 use Rattle.dwg_cert.proofs.SoundOfAccepted.{accepted_is_sound}
@@ -16,6 +17,12 @@ returns-clause-ranks c = ranks_are_steps
 
 pub returns-clause-places : goal.returns-clause-places
 returns-clause-places c = places_are_in_chains
+
+pub returns-clause-ranks_agree : goal.returns-clause-ranks_agree
+returns-clause-ranks_agree c = ranks_agree
+
+pub returns-clause-places_agree : goal.returns-clause-places_agree
+returns-clause-places_agree c = places_agree
 
 pub returns-clause-reported : goal.returns-clause-reported
 returns-clause-reported c = acceptance_is_reported
