@@ -87,7 +87,7 @@ class Promises(unittest.TestCase):
 
     def test_every_clause_of_the_program(self) -> None:
         there = contracts()
-        for function in ("dwg_cli::run", "dwg_commands::outcome_laws"):
+        for function in ("dwg_cli::run", "dwg_commands::outcome_laws", "dwg_commands::status_laws"):
             named = set().union(*(promise.clauses for promise in promises() if promise.function == function))
             self.assertEqual(named, there[function])
 

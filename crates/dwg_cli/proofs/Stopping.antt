@@ -25,3 +25,11 @@ stopped_is_cut answer reported status before after is settled sent stopped =
       | inl whole ↦ absurd (settled_goes_on status (subst IsSettled (sym whole.0) settled) stopped)
       | inr broken ↦ subst (λ (one : Outcome). DeliversPrefix one before.output after.output before.notes after.notes) is broken.1
     ]
+
+-- one that is settled sent its whole answer
+pub settled_is_whole : (answer : Outcome) (status : Status) (before after : Sinks) → IsSettled status → Sent answer status before after → answer.status ≡ status
+settled_is_whole answer status before after settled sent =
+    elim sent.1 [
+      | inl whole ↦ sym whole.0
+      | inr broken ↦ absurd (settled_goes_on status settled broken.0)
+    ]

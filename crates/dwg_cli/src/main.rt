@@ -1,6 +1,10 @@
 //! The program `dwg`: it says of a drawing on standard input what the words of its command line ask for, or makes one.
 #![tactic(auto)]
 
+ghost use Rattle.std.specs.Prelude.{◌≡◌};
+ghost use Rattle.std.specs.Process.{exit_status};
+ghost use Rattle.dwg_commands.specs.Status.{code_of};
+
 mod adapters;
 mod run;
 #[cfg(test)]
@@ -38,6 +42,13 @@ fn status_of_run(rt: &HostRuntime) -> Status {
     }
 }
 
+/// The exit status of the program, by how its run ended.
+fn exit_of(status: Status) -> ExitCode
+    ensures { exit_status result ≡ code_of status }
+{
+    ExitCode::from(status.code())
+}
+
 fn main(rt: HostRuntime) -> ExitCode {
-    ExitCode::from(status_of_run(&rt).code())
+    exit_of(status_of_run(&rt))
 }

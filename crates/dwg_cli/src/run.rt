@@ -6,10 +6,12 @@ ghost use Rattle.dwg_base.specs.Devices.{Came, Rose, AppendsPrefix, MOST_BYTES};
 ghost use Rattle.dwg_text.specs.Notes as texts;
 ghost use Rattle.dwg_commands.specs.Words.{texts as words_of, command_of, IsReading, IsUsage};
 ghost use Rattle.dwg_commands.specs.Outcome.{outcome};
+ghost use Rattle.dwg_commands.specs.Meaning.{Means};
+ghost use Rattle.dwg_commands.specs.declared.words.Command.{Command};
 ghost use Rattle.dwg_commands.specs.Run.{Feeds, AnswersTo, IsSettled, IsStopped, IsFailed, IsDrained, Delivers, DeliversPrefix, StopsAtFault};
 
 use dwg_base::{Sink, Source, put_all};
-use dwg_commands::{Status, Stop, job_for, run_job};
+use dwg_commands::{Status, Stop, job_for, run_job, status_laws};
 use dwg_text::read_fault_note;
 use std::alloc::Global;
 
@@ -42,6 +44,10 @@ pub fn run<R: Source, W: Sink, N: Sink>(
     ensures came { IsSettled result → Came (R.left input.old) (R.left input.new) (λ came.
         AnswersTo (words_of words.now) came result (W.taken output.old) (W.taken output.new) (N.taken notes.old) (N.taken notes.new)) }
 
+    // What Done and Found of a command mean of the bytes that the input reports: which drawing they spell, or hold after a certificate.
+    ensures means { IsSettled result → (bytes : List ℕ) → R.left input.old ≡ Some bytes → (command : Command) → command_of (words_of words.now) ≡ Some command →
+        Means result command bytes }
+
     // Usage comes only where the words stand in no line of the command table, or ask for a made drawing of no size that it has; and
     // there it comes, unless the run stopped. That is so whatever the devices report.
     ensures usage { result ≡ Status.Usage → IsUsage (command_of (words_of words.now)) }
@@ -67,8 +73,9 @@ pub fn run<R: Source, W: Sink, N: Sink>(
         ⊎ StopsAtFault (command_of (words_of words.now)) (R.faults input.old) (R.faults input.new) (W.taken output.old) (W.taken output.new) (N.taken notes.old) (N.taken notes.new)) }
     ensures stopped_at_fault { IsStopped result → R.faults input.old < R.faults input.new →
         StopsAtFault (command_of (words_of words.now)) (R.faults input.old) (R.faults input.new) (W.taken output.old) (W.taken output.new) (N.taken notes.old) (N.taken notes.new) }
-    ensures heeded_output { W.faults output.old < W.faults output.new → IsStopped result }
-    ensures heeded_notes { N.faults notes.old < N.faults notes.new → IsStopped result }
+    ensures heeded_output { W.faults output.old < W.faults output.new → result ≡ Status.WriteFault }
+    ensures heeded_notes { N.faults notes.old < N.faults notes.new → result ≡ Status.WriteFault }
+    ensures hides_nothing { result ≡ Status.NoMemory → (R.faults input.new ≡ R.faults input.old) × (W.faults output.new ≡ W.faults output.old) × (N.faults notes.new ≡ N.faults notes.old) }
 
     // Counts of faults never fall. They stay where neither a device nor memory failed, and those of the sinks where the input failed.
     ensures quiet { IsSettled result → (R.faults input.new ≡ R.faults input.old) × (W.faults output.new ≡ W.faults output.old) × (N.faults notes.new ≡ N.faults notes.old) }
@@ -85,7 +92,10 @@ pub fn run<R: Source, W: Sink, N: Sink>(
         (result ≡ (outcome (words_of words.now) bytes).status) ⊎ (result ≡ Status.NoMemory) }
 {
     match job_for(alloc, words, input) {
-        Ok(job) => run_job(alloc, &job, output, notes),
+        Ok(job) => {
+            status_laws();
+            run_job(alloc, &job, output, notes)
+        }
         Err(Stop::ReadFault) => report_read_fault(notes),
         Err(Stop::NoMemory) => Status::NoMemory,
     }

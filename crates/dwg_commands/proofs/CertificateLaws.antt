@@ -42,11 +42,11 @@ pub record FormLaws : Type 0 where
   pub bytes : FormIsBytes
 
 -- each of these words names its command
-certify_said : (bytes : List ℕ) → IsInput bytes → said (codes "certify") bytes ≡ outcome_within Certify bytes
+pub certify_said : (bytes : List ℕ) → IsInput bytes → said (codes "certify") bytes ≡ outcome_within Certify bytes
 unfolding command_of reading_of READERS row_of
 certify_said bytes input = of_input Certify bytes input refl
 
-accept_said : (bytes : List ℕ) → IsInput bytes → said (codes "accept") bytes ≡ outcome_within Accept bytes
+pub accept_said : (bytes : List ℕ) → IsInput bytes → said (codes "accept") bytes ≡ outcome_within Accept bytes
 unfolding command_of reading_of READERS row_of
 accept_said bytes input = of_input Accept bytes input refl
 
@@ -93,7 +93,7 @@ are_after [] rest are = are
 are_after (byte ∷ prefix) rest are = are_after prefix rest are.1
 
 -- what stands after the certificate of an input is one too
-input_after : (bytes : List ℕ) (cert : List Entry) (rest : List ℕ) → IsInput bytes → BeginsWithCertificate bytes cert rest → IsInput rest
+pub input_after : (bytes : List ℕ) (cert : List Entry) (rest : List ℕ) → IsInput bytes → BeginsWithCertificate bytes cert rest → IsInput rest
 input_after bytes cert rest input begins = record {
   are = are_after (certificate_bytes cert) rest (subst AreBytes begins.whole input.are);
   within = omega (arith, input.within, ap length begins.whole, length-append (certificate_bytes cert) rest);
@@ -113,7 +113,7 @@ begun forms bytes cert rest begins =
     record { holds = read.0; is = is; after = ap (λ (entries : List Entry). after_certificate entries bytes) is ∙ read.2 }
 
 -- the lines on the drawing are tried there
-tried_there : FormLaws → (bytes : List ℕ) (cert : List Entry) (rest : List ℕ) → BeginsWithCertificate bytes cert rest → first_fault (lines_of Accept) bytes ≡ first_fault ALL_LINES rest
+pub tried_there : FormLaws → (bytes : List ℕ) (cert : List Entry) (rest : List ℕ) → BeginsWithCertificate bytes cert rest → first_fault (lines_of Accept) bytes ≡ first_fault ALL_LINES rest
 tried_there forms bytes cert rest begins =
     let known = begun forms bytes cert rest begins in
     tried_of_drawing bytes known.holds ∙ ap (λ (those : List ℕ). first_fault ALL_LINES those) known.after

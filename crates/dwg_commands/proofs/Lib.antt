@@ -1,6 +1,7 @@
 pub mod CommandsRead
 pub mod Outcomes
 pub mod OutcomeLaws
+pub mod MakeLaws
 pub mod Faults
 pub mod Deliveries
 pub mod Makings
@@ -16,3 +17,4 @@ pub mod OwnCertificate
 pub mod CertificateOutcomes
 pub mod CarryLaws
 pub mod CertificateLaws
+pub mod Meanings

@@ -69,7 +69,7 @@ pub audit_said : (bytes : List ℕ) → IsInput bytes → said (codes "audit") b
 unfolding command_of reading_of READERS row_of
 audit_said bytes input = of_input Audit bytes input refl
 
-recover_said : (bytes : List ℕ) → IsInput bytes → said (codes "recover") bytes ≡ outcome_within Recover bytes
+pub recover_said : (bytes : List ℕ) → IsInput bytes → said (codes "recover") bytes ≡ outcome_within Recover bytes
 unfolding command_of reading_of READERS row_of
 recover_said bytes input = of_input Recover bytes input refl
 
@@ -142,7 +142,7 @@ pub filed_large : (drawing : Contents) (note : List ℕ) (status : Status) → M
 filed_large = carried_large NO_PICTURE
 
 -- the canonical file of a valid drawing is rewritten as it is
-written_rewrites : DrawingLaws → FileLaws → (drawing : Contents) → IsValid drawing → size_of drawing ≤ MOST_BYTES → Rewrites drawing (record { output = canonical drawing; note = []; status = Done })
+pub written_rewrites : DrawingLaws → FileLaws → (drawing : Contents) → IsValid drawing → size_of drawing ≤ MOST_BYTES → Rewrites drawing (record { output = canonical drawing; note = []; status = Done })
 written_rewrites laws files drawing valid small =
     let spells : Spelled drawing (canonical drawing) = files.spells drawing valid small in
     let counted = files.counted drawing valid small in
@@ -228,13 +228,16 @@ pub damaged_is : (value : RecoveredValue) (refusal : Refusal) → value.refusal 
 unfolding recovered_outcome
 damaged_is value refusal is = ap (λ first. filed value.drawing (recovery_notes first value.losses value.kept) (recovery_status first)) is
 
-pub recover_writes_frames : DrawingLaws → RecoveredIsValid → DamagedIsAnswered → RecoverWritesFrames
-recover_writes_frames laws valid damaged bytes input none =
+pub recover_writes_frames : DrawingLaws → FileLaws → RecoveredIsValid → DamagedIsAnswered → RecoverWritesFrames
+recover_writes_frames laws files valid damaged bytes input none =
     let fails = first_failing laws bytes input none in
     let reported = damaged bytes fails.0 fails.1 in
     let value = recovered bytes in
     let refuses : value.refusal ≡ Some fails.0 = ap (λ (one : RecoveredValue). one.refusal) reported.0 ∙ reported.1 in
     let is : said (codes "recover") bytes ≡ filed value.drawing (recovery_note fails.0 value.losses value.kept) Found = recover_is bytes input ∙ damaged_is value fails.0 refuses in
+    let rewrites = written_rewrites laws files value.drawing ((valid bytes input.are).valid input.within) in
+    let output : size_of value.drawing ≤ MOST_BYTES → (said (codes "recover") bytes).output ≡ canonical value.drawing =
+    λ small. ap (λ (a : Outcome). a.output) (is ∙ filed_within value.drawing (recovery_note fails.0 value.losses value.kept) Found small) in
     record {
       value = value;
       recovers = refl;
@@ -242,5 +245,8 @@ recover_writes_frames laws valid damaged bytes input none =
       refusal = fails.0;
       first = fails.1;
       writes = λ small. is ∙ filed_within value.drawing _ Found small;
+      spells = λ small. subst (λ (file : List ℕ). Spelled value.drawing file) (sym (output small)) (rewrites small).spells;
+      once = λ small.
+          subst (λ (file : List ℕ). said (codes "rewrite") file ≡ record { output = file; note = []; status = Done }) (sym (output small)) (rewrites small).once;
       large = λ large. is ∙ filed_large value.drawing _ Found large;
     }

@@ -14,6 +14,8 @@ pub mod Outcome
 pub mod Jobs
 -- What the commands that read answer, said of the header that the input begins with, the classes that it has, the drawing that it spells, and the certificate before one.
 pub mod OutcomeLaws
+-- What a status means of the input: which drawing it spells, or which certificate and drawing it holds.
+pub mod Meaning
 -- Which text is sent of what it is made of, and how the run ends then.
 pub mod PrintedOutputs
 -- Which outcome is sent of what is made of one before it is sent.

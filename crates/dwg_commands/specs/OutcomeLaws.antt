@@ -1,5 +1,5 @@
 -- What the commands that read answer, said of the header that the input begins with, the classes that it has, the drawing that it spells, and the certificate before one. A rule of this project.
-use Rattle.std.specs.Prelude.{◌≡◌, ◌↔◌, ℕ, ◌≤◌, ◌<◌, List, [], ◌∷◌, ◌++◌, length, codes, Some, IsTrue}
+use Rattle.std.specs.Prelude.{◌≡◌, ◌↔◌, ℕ, ◌≤◌, ◌<◌, ◌^◌, List, [], ◌∷◌, ◌++◌, length, codes, Some, IsTrue}
 use Rattle.dwg_messages.specs.AppText.{appdata_text}
 use Rattle.dwg_appitems.specs.AppFailures.{IsAppFinding}
 use Rattle.dwg_appitems.specs.AppFindings.{app_findings}
@@ -16,8 +16,8 @@ use Rattle.dwg_cert.specs.WrittenForm.{BeginsWithCertificate, certificate_bytes}
 use Rattle.dwg_cert.specs.declared.entry.Entry.{Entry}
 use Rattle.dwg_classes.specs.Class.{AreClasses}
 use Rattle.dwg_classes.specs.declared.class.Class.{Class}
-use Rattle.dwg_file.specs.CanonicalFrames.{canonical_frames}
-use Rattle.dwg_file.specs.Canonical.{Carried, NO_PICTURE, size_of, size_with, canonical, canonical_with}
+use Rattle.dwg_file.specs.CanonicalFrames.{canonical_frames_with}
+use Rattle.dwg_file.specs.Canonical.{Carried, IsCarried, NO_PICTURE, size_of, size_with, canonical, canonical_with}
 use Rattle.dwg_file.specs.Contents.{Contents}
 use Rattle.dwg_file.specs.FileLines.{ALL_LINES, classes_row, classes_section_row}
 use Rattle.dwg_file.specs.ShortDamage.{IsDamagedShortly}
@@ -30,6 +30,7 @@ use Rattle.dwg_recover.specs.ListMembers.{IsOneOf}
 use Rattle.dwg_recover.specs.Recovering.{RecoveredValue, recovered}
 use Rattle.dwg_recover.specs.ShortDamage.{word_refusal}
 use Rattle.dwg_recover.specs.Reported.{IsValidAnswer}
+use Rattle.dwg_make.specs.Made.{MOST_ENTITIES, made}
 use Rattle.dwg_messages.specs.RecoveryNote.{recovery_note}
 use Rattle.dwg_messages.specs.AuditText.{audit_text}
 use Rattle.dwg_sections.specs.declared.framed.Framed.TheVariants as framed
@@ -45,6 +46,7 @@ use Rattle.dwg_text.specs.Sections.{sections_text}
 use Rattle.dwg_commands.specs.declared.outcome.Outcome.{Outcome}
 use Rattle.dwg_commands.specs.declared.status.Status.TheVariants.{Done, Found, Refused, TooLarge}
 use Rattle.dwg_commands.specs.declared.words.Command.{Command}
+use Rattle.dwg_commands.specs.declared.words.Command.TheVariants.{Make}
 use Rattle.dwg_commands.specs.Commands.{reads, row_of}
 use Rattle.dwg_commands.specs.Outcome.{outcome}
 use Rattle.dwg_commands.specs.Words.{command_of}
@@ -179,7 +181,7 @@ AuditReportsSound = (drawing : Contents) (bytes : List ℕ) → IsInput bytes �
 abbrev pub RecoverRewritesDrawing : Type 0
 RecoverRewritesDrawing = (drawing : Contents) (bytes : List ℕ) → IsInput bytes → Spelled drawing bytes → said (codes "recover") bytes ≡ said (codes "rewrite") bytes
 
--- an answer writes the canonical file of what is recovered of an input, a valid drawing whose objects are those of frames that stand in it, where that is within the limit, and notes the first line that fails
+-- an answer writes the canonical file of what is recovered of an input, a valid drawing whose objects are those of frames that stand in it, where that is within the limit, and notes the first line that fails; that file spells the drawing, and is rewritten as it is
 pub record Recovers (bytes : List ℕ) (answer : Outcome) : Type 0 where
   pub value : RecoveredValue
   pub recovers : value ≡ recovered bytes
@@ -189,6 +191,8 @@ pub record Recovers (bytes : List ℕ) (answer : Outcome) : Type 0 where
   pub writes :
       size_of value.drawing ≤ MOST_BYTES
       → answer ≡ record { output = canonical value.drawing; note = recovery_note refusal value.losses value.kept; status = Found }
+  pub spells : size_of value.drawing ≤ MOST_BYTES → Spelled value.drawing answer.output
+  pub once : size_of value.drawing ≤ MOST_BYTES → said (codes "rewrite") answer.output ≡ record { output = answer.output; note = []; status = Done }
   pub large :
       MOST_BYTES < size_of value.drawing
       → answer ≡ record { output = []; note = too_large_note (size_of value.drawing); status = TooLarge (size_of value.drawing) }
@@ -201,11 +205,15 @@ RecoverWritesFrames = (bytes : List ℕ) → IsInput bytes → SpellsNone bytes 
 abbrev pub refuses_for : Refusal → Outcome
 refuses_for refusal = record { output = []; note = refusal_note refusal; status = Refused refusal }
 
--- `show`, `rewrite` and `audit` refuse an input for the check word of the object of a frame and print nothing; what `recover` recovers has every other object; where that is within the limit it writes its canonical file, and notes that refusal and the loss of that object alone, and else it reports the size
+-- each command that reads a drawing but `recover` refuses an input for the check word of the object of a frame and prints nothing, `accept` whatever certificate stands before it; what `recover` recovers has every other object; where that is within the limit it writes its canonical file, and notes that refusal and the loss of that object alone, and else it reports the size
 pub record ReportsDamage (bytes : List ℕ) (earlier : List PairFrame) (frame : PairFrame) (later : List PairFrame) : Type 0 where
   pub show : said (codes "show") bytes ≡ refuses_for (word_refusal earlier frame)
   pub rewrite : said (codes "rewrite") bytes ≡ refuses_for (word_refusal earlier frame)
   pub audit : said (codes "audit") bytes ≡ refuses_for (word_refusal earlier frame)
+  pub carry : said (codes "carry") bytes ≡ refuses_for (word_refusal earlier frame)
+  pub appdata : said (codes "appdata") bytes ≡ refuses_for (word_refusal earlier frame)
+  pub certify : said (codes "certify") bytes ≡ refuses_for (word_refusal earlier frame)
+  pub accept : (cert : List Entry) (whole : List ℕ) → IsInput whole → BeginsWithCertificate whole cert bytes → said (codes "accept") whole ≡ refuses_for (word_refusal earlier frame)
   pub others : (other : PairFrame) → IsOneOf other (earlier ++ later) → IsOneOf other.object (recovered bytes).drawing.objects
   pub writes :
       size_of (recovered bytes).drawing ≤ MOST_BYTES
@@ -220,11 +228,18 @@ pub record ReportsDamage (bytes : List ℕ) (earlier : List PairFrame) (frame : 
       → said (codes "recover") bytes
       ≡ record { output = []; note = too_large_note (size_of (recovered bytes).drawing); status = TooLarge (size_of (recovered bytes).drawing) }
 
--- so they do of one that differs from the canonical file of a drawing in one byte, or in two neighbouring ones, in the body and the check word of one object's frame
+-- so they do of one that differs from the canonical file of a drawing with a preview in one byte, or in two neighbouring ones, in the body and the check word of one object's frame
 abbrev pub ShortDamageIsReported : Type 0
 ShortDamageIsReported =
-    (drawing : Contents) (bytes : List ℕ) (earlier : List PairFrame) (frame : PairFrame) (later : List PairFrame) → IsValid drawing → size_of drawing ≤ MOST_BYTES → AreBytes bytes
-    → canonical_frames drawing ≡ earlier ++ frame ∷ later → IsDamagedShortly drawing frame bytes → ReportsDamage bytes earlier frame later
+    (carried : Carried) (drawing : Contents) (bytes : List ℕ) (earlier : List PairFrame) (frame : PairFrame) (later : List PairFrame) → IsCarried carried → IsValid drawing
+    → size_with carried drawing ≤ MOST_BYTES → AreBytes bytes → canonical_frames_with carried drawing ≡ earlier ++ frame ∷ later → IsDamagedShortly carried drawing frame bytes
+    → ReportsDamage bytes earlier frame later
+
+-- `make` writes the canonical file of the drawing that its two numbers make, whatever the input; it is never too large
+abbrev pub MakeWritesDrawing : Type 0
+MakeWritesDrawing =
+    (n seed : ℕ) (words : List (List ℕ)) (bytes : List ℕ) → command_of words ≡ Some (Make n seed) → 0 < n → n ≤ MOST_ENTITIES → seed < 2 ^ 32
+    → Rewrites (made n seed) (outcome words bytes)
 
 -- `appdata` refuses an input that spells no drawing by the first line that fails
 abbrev pub NoItemsAreReported : Type 0

@@ -114,3 +114,4 @@ Sent answer status before after = NeverFall × (IsWhole ⊎ IsBroken)
     IsBroken =
         IsStopped status × DeliversPrefix answer before.output after.output before.notes after.notes
         × (status ≡ WriteFault → Rose before.output_faults after.output_faults ⊎ Rose before.note_faults after.note_faults)
+        × (status ≡ NoMemory → (after.output_faults ≡ before.output_faults) × (after.note_faults ≡ before.note_faults))

@@ -1,6 +1,7 @@
 //! Laws of what is answered, as the contract of a function without code of its own.
 
-ghost use Rattle.dwg_commands.specs.OutcomeLaws.{AcceptReportsAccepted, AppdataReportsItems, AuditReportsSound, CarryNotesNone, CarryWritesPreview, CertifiedIsAccepted, ClassesPrintsClasses, NoCertificateIsRefused, NoClassesAreRefused, NoDrawingAfterIsRefused, NoDrawingIsRefused, NoHeaderIsRefused, NoItemsAreReported, NoneIsCarried, NoneIsCertified, ReadersAreNamed, RecoverRewritesDrawing, RecoverWritesFrames, RewriteReportsSize, RewriteWritesDrawing, SectionsPrintsHeader, ShortDamageIsReported, ShowPrintsDrawing, SoundIsCertified, UnsoundIsNoted};
+ghost use Rattle.dwg_commands.specs.Meaning.{AcceptedIsAudited, CertifyEndsAsAudit, RecoverDoneIsSpelled, StatusesMean};
+ghost use Rattle.dwg_commands.specs.OutcomeLaws.{AcceptReportsAccepted, AppdataReportsItems, AuditReportsSound, CarryNotesNone, CarryWritesPreview, CertifiedIsAccepted, ClassesPrintsClasses, NoCertificateIsRefused, NoClassesAreRefused, NoDrawingAfterIsRefused, NoDrawingIsRefused, NoHeaderIsRefused, MakeWritesDrawing, NoItemsAreReported, NoneIsCarried, NoneIsCertified, ReadersAreNamed, RecoverRewritesDrawing, RecoverWritesFrames, RewriteReportsSize, RewriteWritesDrawing, SectionsPrintsHeader, ShortDamageIsReported, ShowPrintsDrawing, SoundIsCertified, UnsoundIsNoted};
 
 use dwg_appitems::app_finding_laws;
 use dwg_audit::{auditable_laws, finding_laws};
@@ -9,6 +10,7 @@ use dwg_classes::classes_laws;
 use dwg_file::{
     canonical_laws, carrying_laws, drawing_laws, short_damage_laws as frame_damage_laws,
 };
+use dwg_make::make_laws;
 use dwg_preview::preview_laws;
 use dwg_recover::{answer_laws, short_damage_laws};
 use dwg_sections::{file_header_laws, framed_laws};
@@ -22,15 +24,18 @@ use dwg_sections::{file_header_laws, framed_laws};
 /// print nothing; and `recover` notes that line, ends with Found, and writes the canonical file of what is recovered, a valid drawing whose
 /// objects are those of frames that stand in the input, where that file has at most 32 MiB.
 ///
-/// Where an input differs from the canonical file of a valid drawing in one byte, or in two neighbouring ones, in the body and the
-/// check word of one object's frame, `show`, `rewrite` and `audit` refuse it for the check word of that object and print nothing;
-/// what is recovered has every other object, and where its canonical file has at most 32 MiB, `recover` writes that and notes that
+/// Where an input differs from the canonical file of a valid drawing, with any preview, in one byte, or in two neighbouring ones, in the
+/// body and the check word of one object's frame, `show`, `rewrite`, `audit`, `carry`, `appdata` and `certify` refuse it for the check
+/// word of that object and print nothing, and so does `accept` where it stands after a certificate; what is recovered has every other object, and where its canonical file has at most 32 MiB, `recover` writes that and notes that
 /// refusal and the loss of that object alone; else it reports the size.
 ///
 /// `carry` refuses an input that spells no drawing by the first line that fails. Where it spells one, `carry` writes the canonical file
 /// with the preview section that stands where the file header says, and where none stands there the one that `rewrite` writes, and notes
 /// that. The file spells the drawing and no other, and is carried as it is, without a note; where it would have more than 32 MiB, its
 /// size is reported.
+///
+/// `make` writes the canonical file of the drawing of its two numbers, whatever the input. It spells that drawing and no other, and is
+/// rewritten as it is.
 ///
 /// `appdata` refuses an input that spells no drawing by the first line that fails. Where it spells one, `appdata` prints the items of
 /// its extended data and then those whose references lead nowhere, and ends with Done exactly where there are none, and else with Found.
@@ -58,6 +63,7 @@ pub fn outcome_laws()
     ensures recover { RecoverRewritesDrawing }
     ensures damaged { RecoverWritesFrames }
     ensures short { ShortDamageIsReported }
+    ensures make { MakeWritesDrawing }
     ensures no_items { NoItemsAreReported }
     ensures items { AppdataReportsItems }
     ensures no_certified { NoneIsCertified }
@@ -79,8 +85,28 @@ pub fn outcome_laws()
     finding_laws();
     app_finding_laws();
     answer_laws();
+    make_laws();
     frame_damage_laws();
     short_damage_laws();
     certificate_laws();
     acceptance_laws();
+}
+
+/// What a status of a command says of an input of at most 32 MiB, whatever it is. `show`, `rewrite`, `carry`, `appdata` and `recover` end
+/// with Done only where it spells a drawing, and that of `recover` is the one that is written. `audit` and `certify` end alike: with Done
+/// only where it spells a drawing whose references hold together, and with Found only where it spells another. `accept` ends with Done only
+/// where it is a certificate and after it a drawing, of whose objects that is one, and whose references hold together: `audit` of what
+/// stands after the certificate ends with Done too.
+pub fn status_laws()
+    ensures means { StatusesMean }
+    ensures recovered { RecoverDoneIsSpelled }
+    ensures alike { CertifyEndsAsAudit }
+    ensures audited { AcceptedIsAudited }
+{
+    drawing_laws();
+    answer_laws();
+    auditable_laws();
+    certificate_laws();
+    acceptance_laws();
+    outcome_laws();
 }

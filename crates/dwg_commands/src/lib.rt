@@ -21,7 +21,7 @@ mod status;
 mod words;
 
 pub use job::{Job, Stop, job_for};
-pub use laws::outcome_laws;
+pub use laws::{outcome_laws, status_laws};
 pub use outcome::Outcome;
 pub use running::run_job;
 pub use status::Status;

@@ -38,7 +38,7 @@ fn send_note<N: Sink>(note: &[u8], status: Status, notes: &mut N) -> Status
 fn send_recovery<N: Sink>(alloc: Global, note: &RecoveryNote, notes: &mut N) -> Status
     ensures never_falls { N.faults notes.old ≤ N.faults notes.new }
     ensures ends { (result ≡ Status.Found) × Appends (N.taken notes.old) (N.taken notes.new) note.now × (N.faults notes.new ≡ N.faults notes.old)
-        ⊎ IsStopped result × AppendsPrefix (N.taken notes.old) (N.taken notes.new) note.now × (result ≡ Status.WriteFault → Rose (N.faults notes.old) (N.faults notes.new)) }
+        ⊎ IsStopped result × AppendsPrefix (N.taken notes.old) (N.taken notes.new) note.now × (result ≡ Status.WriteFault → Rose (N.faults notes.old) (N.faults notes.new)) × (result ≡ Status.NoMemory → N.faults notes.new ≡ N.faults notes.old) }
 {
     match note.print(alloc, notes) {
         Ok(()) => Status::Found,
@@ -51,7 +51,7 @@ fn send_recovery<N: Sink>(alloc: Global, note: &RecoveryNote, notes: &mut N) -> 
 fn send_noting<N: Sink>(alloc: Global, noting: &Noting, notes: &mut N) -> Status
     ensures never_falls { N.faults notes.old ≤ N.faults notes.new }
     ensures ends { (result ≡ ends_by noting.now) × Appends (N.taken notes.old) (N.taken notes.new) (note_of noting.now) × (N.faults notes.new ≡ N.faults notes.old)
-        ⊎ IsStopped result × AppendsPrefix (N.taken notes.old) (N.taken notes.new) (note_of noting.now) × (result ≡ Status.WriteFault → Rose (N.faults notes.old) (N.faults notes.new)) }
+        ⊎ IsStopped result × AppendsPrefix (N.taken notes.old) (N.taken notes.new) (note_of noting.now) × (result ≡ Status.WriteFault → Rose (N.faults notes.old) (N.faults notes.new)) × (result ≡ Status.NoMemory → N.faults notes.new ≡ N.faults notes.old) }
 {
     match noting {
         Noting::Fixed(note) => send_note(note, Status::Done, notes),

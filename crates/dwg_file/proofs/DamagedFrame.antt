@@ -18,9 +18,9 @@ use Rattle.dwg_object.specs.Frames.{FrameAt, SpanAt, frame_bytes, framed_body}
 use Rattle.dwg_object.proofs.SpanLaws.{lengths_same}
 use Rattle.dwg_object.proofs.StandingLemmas.{stands_bytes, stands_first, stands_next, stands_same}
 use Rattle.dwg_object.specs.Written.{body_bytes}
-use Rattle.dwg_file.specs.Canonical.{canonical, objects_place, placed, size_of}
-use Rattle.dwg_file.specs.CanonicalFrames.{canonical_frames}
-use Rattle.dwg_file.proofs.CanonicalLaws.{canonical_is_counted}
+use Rattle.dwg_file.specs.Canonical.{Carried, IsCarried, canonical_with, objects_place_with, placed, size_with}
+use Rattle.dwg_file.specs.CanonicalFrames.{canonical_frames_with}
+use Rattle.dwg_file.proofs.CanonicalLaws.{carrying_is_counted}
 use Rattle.dwg_file.specs.Contents.{Contents}
 use Rattle.dwg_file.proofs.DamagedParts.{damaged_spliced, earlier_stand}
 use Rattle.dwg_file.specs.FrameRefusals.{FramesRefused, SharesByte}
@@ -155,19 +155,19 @@ no_frame bytes place damage body end frame =
     damage.wrong (words ∙ ap word_of (sym prefixes))
 
 -- the frame of a drawing in which its input is damaged
-pub frame_damaged : DamageUnderSealShows → (drawing : Contents) (bytes : List ℕ) (earlier : List PairFrame) (frame : PairFrame) (later : List PairFrame) → IsValid drawing
-    → size_of drawing ≤ MOST_BYTES → AreBytes bytes → canonical_frames drawing ≡ earlier ++ frame ∷ later → IsDamagedShortly drawing frame bytes
+pub frame_damaged : DamageUnderSealShows → (carried : Carried) (drawing : Contents) (bytes : List ℕ) (earlier : List PairFrame) (frame : PairFrame) (later : List PairFrame) → IsCarried carried → IsValid drawing
+    → size_with carried drawing ≤ MOST_BYTES → AreBytes bytes → canonical_frames_with carried drawing ≡ earlier ++ frame ∷ later → IsDamagedShortly carried drawing frame bytes
     → FrameDamage bytes frame.pair.place
 unfolding frame_bytes
-frame_damaged shows drawing bytes earlier frame later is small are whole damaged =
+frame_damaged shows carried drawing bytes earlier frame later kept is small are whole damaged =
     let written =
-    (all_of_prefix (IsWritten drawing.version drawing.classes (canonical drawing)) earlier (frame ∷ later)
-    (subst (AllByRecursion (IsWritten drawing.version drawing.classes (canonical drawing))) whole (canonical_written drawing is small))).1.0 in
+    (all_of_prefix (IsWritten drawing.version drawing.classes (canonical_with carried drawing)) earlier (frame ∷ later)
+    (subst (AllByRecursion (IsWritten drawing.version drawing.classes (canonical_with carried drawing))) whole (canonical_written carried drawing kept is small))).1.0 in
     let body : List ℕ = body_bytes drawing.version frame.object in
     let size : List ℕ = ms.short (length body) in
     let short : length (ms.short (length frame.body)) ≡ length size = ap (λ (b : List ℕ). length (ms.short (length b))) written.body in
     let to : ℕ = length damaged.differ.before + length damaged.differ.here in
-    damage_of shows (canonical drawing) bytes (length damaged.differ.before) to frame.pair.place size body (damaged_spliced drawing frame bytes damaged) (canonical_is_counted drawing is small).1 are
+    damage_of shows (canonical_with carried drawing) bytes (length damaged.differ.before) to frame.pair.place size body (damaged_spliced carried drawing frame bytes damaged) (carrying_is_counted carried drawing kept is small).1 are
     damaged.differ.few damaged.differ.differ (ms_is_code.canonical (length body) (ms_has (length body) (omega (arith, (valid_fits drawing.version drawing.classes frame.object written.valid).2)))) written.stands
     (omega (arith, damaged.from, short)) (omega (arith, damaged.to, written.ends, length_of_frame drawing.version frame.object))
 
@@ -195,12 +195,12 @@ shares_none (frame ∷ frames) place span before from (inl both) = omega (arith,
 shares_none (frame ∷ frames) place span before from (inr more) = shares_none frames place span before.1 from more
 
 -- the damaged frame is the first that fails a line
-pub damaged_is_first : DamageUnderSealShows → (drawing : Contents) (bytes : List ℕ) (earlier : List PairFrame) (frame : PairFrame) (later : List PairFrame) → IsValid drawing
-    → size_of drawing ≤ MOST_BYTES → AreBytes bytes → canonical_frames drawing ≡ earlier ++ frame ∷ later → IsDamagedShortly drawing frame bytes
-    → FramesRefused drawing.classes bytes (placed drawing.version (objects_place drawing) drawing.objects) (frame_refusal 30 (length earlier) frame.pair.place)
-damaged_is_first shows drawing bytes earlier frame later is small are whole damaged =
-    let before = earlier_stand drawing bytes earlier frame later is small whole damaged in
-    let damage = frame_damaged shows drawing bytes earlier frame later is small are whole damaged in
+pub damaged_is_first : DamageUnderSealShows → (carried : Carried) (drawing : Contents) (bytes : List ℕ) (earlier : List PairFrame) (frame : PairFrame) (later : List PairFrame) → IsCarried carried → IsValid drawing
+    → size_with carried drawing ≤ MOST_BYTES → AreBytes bytes → canonical_frames_with carried drawing ≡ earlier ++ frame ∷ later → IsDamagedShortly carried drawing frame bytes
+    → FramesRefused drawing.classes bytes (placed drawing.version (objects_place_with carried drawing) drawing.objects) (frame_refusal 30 (length earlier) frame.pair.place)
+damaged_is_first shows carried drawing bytes earlier frame later kept is small are whole damaged =
+    let before = earlier_stand carried drawing bytes earlier frame later kept is small whole damaged in
+    let damage = frame_damaged shows carried drawing bytes earlier frame later kept is small are whole damaged in
     record {
       frames = earlier;
       stand = before.stand;

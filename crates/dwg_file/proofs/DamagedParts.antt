@@ -20,13 +20,13 @@ use Rattle.dwg_sections.specs.declared.framed.Framed.TheVariants.{Variables, Cla
 use Rattle.dwg_sections.specs.FileHeader.{BeginsWithHeader, header_bytes}
 use Rattle.dwg_sections.specs.Framed.{FramedAt, framed_bytes}
 use Rattle.dwg_sections.proofs.HeaderComplete.{header_gives_version}
-use Rattle.dwg_file.specs.Canonical.{NO_PICTURE, canonical, class_content, classes_place, frames_bytes, header_of, map_of, map_place, objects_place, others_place, placed, preview_place, size_of, variables_place}
-use Rattle.dwg_file.specs.CanonicalFrames.{canonical_frames, frames_from}
+use Rattle.dwg_file.specs.Canonical.{Carried, IsCarried, canonical_with, class_content, classes_place, frames_bytes, header_with, map_with, map_place_with, objects_place_with, others_place_with, placed, preview_place, size_with, variables_place}
+use Rattle.dwg_file.specs.CanonicalFrames.{canonical_frames_with, frames_from}
 use Rattle.dwg_file.proofs.CanonicalFrames.{frames_apart, frames_stand, pairs_of_frames}
 use Rattle.dwg_file.proofs.CanonicalHeader.{header_fits}
-use Rattle.dwg_file.proofs.CanonicalLaws.{canonical_ascends, canonical_is_counted, canonical_version, header_reaches, parts_stand}
+use Rattle.dwg_file.proofs.CanonicalLaws.{canonical_ascends, carrying_is_counted, canonical_version, header_reaches, parts_stand}
 use Rattle.dwg_file.specs.CanonicalBytes.{HasPart}
-use Rattle.dwg_file.proofs.CanonicalParts.{length_of_framed, no_picture}
+use Rattle.dwg_file.proofs.CanonicalParts.{length_of_framed}
 use Rattle.dwg_file.specs.Contents.{Contents}
 use Rattle.dwg_file.specs.ShortDamage.{AllElseIsSame, IsDamagedShortly}
 use Rattle.dwg_file.specs.Spelled.{PairFrame, IsFrameOfPair, AreApart}
@@ -35,9 +35,9 @@ use Rattle.dwg_file.specs.Valid.{IsValid}
 use Rattle.dwg_file.proofs.WrittenFrames.{all_of_prefix, lies_among, pairs_of_prefix}
 
 -- the damaged input has in the middle other bytes than the canonical file
-abbrev pub damaged_spliced : (drawing : Contents) (frame : PairFrame) (bytes : List ℕ) (is : IsDamagedShortly drawing frame bytes)
-    → IsSpliced (canonical drawing) bytes (length is.differ.before) (length is.differ.before + length is.differ.here)
-damaged_spliced drawing frame bytes is =
+abbrev pub damaged_spliced : (carried : Carried) (drawing : Contents) (frame : PairFrame) (bytes : List ℕ) (is : IsDamagedShortly carried drawing frame bytes)
+    → IsSpliced (canonical_with carried drawing) bytes (length is.differ.before) (length is.differ.before + length is.differ.here)
+damaged_spliced carried drawing frame bytes is =
     let differ = is.differ in record { before = differ.before; here = differ.here; there = differ.there; after = differ.after; first = differ.first; second = differ.second; long = differ.long; begins = refl; ends = refl }
 
 -- places that are in order, the last of them in the file
@@ -53,73 +53,73 @@ frames_in_order version (object ∷ objects) place most fits =
     (record { order = omega arith; within = omega (arith, fits, long) }, frames_in_order version objects (place + length (frame_bytes version object)) most (omega (arith, fits, long)))
 
 -- frames that end before the damage are as they were
-before_same : (drawing : Contents) (bytes : List ℕ) (from to : ℕ) → IsSpliced (canonical drawing) bytes from to → (limit : ℕ) → limit ≤ from → (frames : List PairFrame)
-    → AllByRecursion (AreInOrder (length (canonical drawing))) frames → AllByRecursion (λ (one : PairFrame). one.end ≤ limit) frames
-    → AllByRecursion (λ (one : PairFrame). HasPart drawing bytes one.pair.place one.end) frames
-before_same drawing bytes from to is limit ahead [] are end = tt
-before_same drawing bytes from to is limit ahead (one ∷ frames) are end = (
-  same_part (canonical drawing) bytes from to is one.pair.place one.end are.0.order are.0.within (inl (omega (arith, ahead, end.0))),
-  before_same drawing bytes from to is limit ahead frames are.1 end.1,
+before_same : (carried : Carried) (drawing : Contents) (bytes : List ℕ) (from to : ℕ) → IsSpliced (canonical_with carried drawing) bytes from to → (limit : ℕ) → limit ≤ from → (frames : List PairFrame)
+    → AllByRecursion (AreInOrder (length (canonical_with carried drawing))) frames → AllByRecursion (λ (one : PairFrame). one.end ≤ limit) frames
+    → AllByRecursion (λ (one : PairFrame). HasPart carried drawing bytes one.pair.place one.end) frames
+before_same carried drawing bytes from to is limit ahead [] are end = tt
+before_same carried drawing bytes from to is limit ahead (one ∷ frames) are end = (
+  same_part (canonical_with carried drawing) bytes from to is one.pair.place one.end are.0.order are.0.within (inl (omega (arith, ahead, end.0))),
+  before_same carried drawing bytes from to is limit ahead frames are.1 end.1,
 )
 
 -- so are those that begin after it
-after_same : (drawing : Contents) (bytes : List ℕ) (from to : ℕ) → IsSpliced (canonical drawing) bytes from to → (limit : ℕ) → to ≤ limit → (frames : List PairFrame)
-    → AllByRecursion (AreInOrder (length (canonical drawing))) frames → AllByRecursion (λ (one : PairFrame). limit ≤ one.pair.place) frames
-    → AllByRecursion (λ (one : PairFrame). HasPart drawing bytes one.pair.place one.end) frames
-after_same drawing bytes from to is limit past [] are begin = tt
-after_same drawing bytes from to is limit past (one ∷ frames) are begin = (
-  same_part (canonical drawing) bytes from to is one.pair.place one.end are.0.order are.0.within (inr (omega (arith, past, begin.0))),
-  after_same drawing bytes from to is limit past frames are.1 begin.1,
+after_same : (carried : Carried) (drawing : Contents) (bytes : List ℕ) (from to : ℕ) → IsSpliced (canonical_with carried drawing) bytes from to → (limit : ℕ) → to ≤ limit → (frames : List PairFrame)
+    → AllByRecursion (AreInOrder (length (canonical_with carried drawing))) frames → AllByRecursion (λ (one : PairFrame). limit ≤ one.pair.place) frames
+    → AllByRecursion (λ (one : PairFrame). HasPart carried drawing bytes one.pair.place one.end) frames
+after_same carried drawing bytes from to is limit past [] are begin = tt
+after_same carried drawing bytes from to is limit past (one ∷ frames) are begin = (
+  same_part (canonical_with carried drawing) bytes from to is one.pair.place one.end are.0.order are.0.within (inr (omega (arith, past, begin.0))),
+  after_same carried drawing bytes from to is limit past frames are.1 begin.1,
 )
 
 -- so it has
 pub else_is_same : AllElseIsSame
-else_is_same drawing bytes earlier frame later is small whole damaged =
-    let splice = damaged_spliced drawing frame bytes damaged in
+else_is_same carried drawing bytes earlier frame later kept is small whole damaged =
+    let splice = damaged_spliced carried drawing frame bytes damaged in
     let from : ℕ = length damaged.differ.before in
     let to : ℕ = length damaged.differ.before + length damaged.differ.here in
-    let among = lies_among drawing.version drawing.objects (objects_place drawing) earlier frame later whole in
-    let size : length (canonical drawing) ≡ size_of drawing = (canonical_is_counted drawing is small).0 in
+    let among = lies_among drawing.version drawing.objects (objects_place_with carried drawing) earlier frame later whole in
+    let size : length (canonical_with carried drawing) ≡ size_with carried drawing = (carrying_is_counted carried drawing kept is small).0 in
     let ahead : frame.pair.place ≤ from = omega (arith, damaged.from) in
     let past : to ≤ frame.end = damaged.to in
-    let stays = same_part (canonical drawing) bytes from to splice in
-    let orders = all_of_prefix (AreInOrder (length (canonical drawing))) earlier (frame ∷ later)
-    (subst (AllByRecursion (AreInOrder (length (canonical drawing)))) whole
-    (frames_in_order drawing.version drawing.objects (objects_place drawing) (length (canonical drawing)) (omega (arith, size)))) in
+    let stays = same_part (canonical_with carried drawing) bytes from to splice in
+    let orders = all_of_prefix (AreInOrder (length (canonical_with carried drawing))) earlier (frame ∷ later)
+    (subst (AllByRecursion (AreInOrder (length (canonical_with carried drawing)))) whole
+    (frames_in_order drawing.version drawing.objects (objects_place_with carried drawing) (length (canonical_with carried drawing)) (omega (arith, size)))) in
     record {
-      long = spliced_long (canonical drawing) bytes from to splice;
+      long = spliced_long (canonical_with carried drawing) bytes from to splice;
       header = stays 0 (variables_place drawing) (omega arith) (omega (arith, size)) (inl (omega (arith, ahead, among.from)));
       variables = stays (variables_place drawing) (classes_place drawing) (omega arith) (omega (arith, size)) (inl (omega (arith, ahead, among.from)));
       classes = stays (classes_place drawing) (preview_place drawing) (omega arith) (omega (arith, size)) (inl (omega (arith, ahead, among.from)));
-      mapped = stays (map_place drawing) (others_place drawing) (omega arith) (omega (arith, size)) (inr (omega (arith, past, among.to)));
-      others = stays (others_place drawing) (size_of drawing) (omega arith) (omega (arith, size)) (inr (omega (arith, past, among.to)));
-      before = before_same drawing bytes from to splice frame.pair.place ahead earlier orders.0 among.before;
-      after = after_same drawing bytes from to splice frame.end past later orders.1.1 among.after;
+      mapped = stays (map_place_with carried drawing) (others_place_with carried drawing) (omega arith) (omega (arith, size)) (inr (omega (arith, past, among.to)));
+      others = stays (others_place_with carried drawing) (size_with carried drawing) (omega arith) (omega (arith, size)) (inr (omega (arith, past, among.to)));
+      before = before_same carried drawing bytes from to splice frame.pair.place ahead earlier orders.0 among.before;
+      after = after_same carried drawing bytes from to splice frame.end past later orders.1.1 among.after;
     }
 
 -- so header, framed sections and map stand in the damaged input
-pub record DamagedStands (drawing : Contents) (bytes : List ℕ) : Type 0 where
-  pub begins : BeginsWithHeader bytes (header_of drawing)
+pub record DamagedStands (carried : Carried) (drawing : Contents) (bytes : List ℕ) : Type 0 where
+  pub begins : BeginsWithHeader bytes (header_with carried drawing)
   pub variables : FramedAt bytes (variables_place drawing) Variables drawing.variables
   pub classes : FramedAt bytes (classes_place drawing) Classes (class_content drawing.classes)
-  pub mapped : MapOf bytes (map_place drawing) (placed drawing.version (objects_place drawing) drawing.objects)
+  pub mapped : MapOf bytes (map_place_with carried drawing) (placed drawing.version (objects_place_with carried drawing) drawing.objects)
 
-pub damaged_stands : (drawing : Contents) (bytes : List ℕ) (earlier : List PairFrame) (frame : PairFrame) (later : List PairFrame) → IsValid drawing → size_of drawing ≤ MOST_BYTES
-    → canonical_frames drawing ≡ earlier ++ frame ∷ later → IsDamagedShortly drawing frame bytes → DamagedStands drawing bytes
-damaged_stands drawing bytes earlier frame later is small whole damaged =
-    let fits = header_fits NO_PICTURE drawing is small in
-    let stand = parts_stand NO_PICTURE drawing no_picture small fits in
+pub damaged_stands : (carried : Carried) (drawing : Contents) (bytes : List ℕ) (earlier : List PairFrame) (frame : PairFrame) (later : List PairFrame) → IsCarried carried → IsValid drawing → size_with carried drawing ≤ MOST_BYTES
+    → canonical_frames_with carried drawing ≡ earlier ++ frame ∷ later → IsDamagedShortly carried drawing frame bytes → DamagedStands carried drawing bytes
+damaged_stands carried drawing bytes earlier frame later kept is small whole damaged =
+    let fits = header_fits carried drawing is small in
+    let stand = parts_stand carried drawing kept small fits in
     let from : ℕ = length damaged.differ.before in
     let to : ℕ = length damaged.differ.before + length damaged.differ.here in
-    let among = lies_among drawing.version drawing.objects (objects_place drawing) earlier frame later whole in
-    let ahead : objects_place drawing ≤ from = omega (arith, damaged.from, among.from) in
-    let past : to ≤ map_place drawing = omega (arith, damaged.to, among.to) in
-    let still = stands_still (canonical drawing) bytes from to (damaged_spliced drawing frame bytes damaged) in
-    let header : List ℕ = header_bytes (header_of drawing) in
+    let among = lies_among drawing.version drawing.objects (objects_place_with carried drawing) earlier frame later whole in
+    let ahead : objects_place_with carried drawing ≤ from = omega (arith, damaged.from, among.from) in
+    let past : to ≤ map_place_with carried drawing = omega (arith, damaged.to, among.to) in
+    let still = stands_still (canonical_with carried drawing) bytes from to (damaged_spliced carried drawing frame bytes damaged) in
+    let header : List ℕ = header_bytes (header_with carried drawing) in
     let variables : List ℕ = framed_bytes Variables drawing.variables in
     let classes : List ℕ = framed_bytes Classes (class_content drawing.classes) in
-    let first : StandsAt (canonical drawing) 0 header = record { before = []; after = stand.begins.0; whole = stand.begins.1; far = refl } in
-    let prefix : StandsAt bytes 0 header = still 0 header first (inl (omega (arith, ahead, header_reaches NO_PICTURE drawing fits))) in
+    let first : StandsAt (canonical_with carried drawing) 0 header = record { before = []; after = stand.begins.0; whole = stand.begins.1; far = refl } in
+    let prefix : StandsAt bytes 0 header = still 0 header first (inl (omega (arith, ahead, header_reaches carried drawing fits))) in
     record {
       begins = record { in_range = fits; stands = (prefix.after, drop_stands bytes 0 header prefix) };
       variables = record {
@@ -131,8 +131,8 @@ damaged_stands drawing bytes earlier frame later is small whole damaged =
         stands = still (classes_place drawing) classes stand.classes (inl (omega (arith, ahead, length_of_framed Classes (class_content drawing.classes))));
       };
       mapped =
-          map_is_written (map_place drawing) bytes (placed drawing.version (objects_place drawing) drawing.objects) (canonical_ascends NO_PICTURE drawing no_picture is)
-          (still (map_place drawing) (map_of drawing) stand.mapped (inr past));
+          map_is_written (map_place_with carried drawing) bytes (placed drawing.version (objects_place_with carried drawing) drawing.objects) (canonical_ascends carried drawing kept is)
+          (still (map_place_with carried drawing) (map_with carried drawing) stand.mapped (inr past));
     }
 
 -- a frame that ends before the damage stands there still, where the version is as it was
@@ -164,32 +164,32 @@ frames_still classes one other from to same splice limit ahead (frame ∷ frames
 )
 
 -- the earlier frames stand in the damaged input, share no byte, and end before the damaged one
-pub record EarlierStand (drawing : Contents) (bytes : List ℕ) (earlier : List PairFrame) (frame : PairFrame) (later : List PairFrame) : Type 0 where
+pub record EarlierStand (carried : Carried) (drawing : Contents) (bytes : List ℕ) (earlier : List PairFrame) (frame : PairFrame) (later : List PairFrame) : Type 0 where
   pub stand : AllByRecursion (IsFrameOfPair drawing.classes bytes) earlier
   pub apart : AllPairs AreApart earlier
   pub before : AllByRecursion (λ (one : PairFrame). one.end ≤ frame.pair.place) earlier
-  pub whole : placed drawing.version (objects_place drawing) drawing.objects ≡ map (λ (one : PairFrame). one.pair) earlier ++ frame.pair ∷ map (λ (one : PairFrame). one.pair) later
+  pub whole : placed drawing.version (objects_place_with carried drawing) drawing.objects ≡ map (λ (one : PairFrame). one.pair) earlier ++ frame.pair ∷ map (λ (one : PairFrame). one.pair) later
 
-pub earlier_stand : (drawing : Contents) (bytes : List ℕ) (earlier : List PairFrame) (frame : PairFrame) (later : List PairFrame) → IsValid drawing → size_of drawing ≤ MOST_BYTES
-    → canonical_frames drawing ≡ earlier ++ frame ∷ later → IsDamagedShortly drawing frame bytes → EarlierStand drawing bytes earlier frame later
-earlier_stand drawing bytes earlier frame later is small whole damaged =
-    let fits = header_fits NO_PICTURE drawing is small in
-    let stand = parts_stand NO_PICTURE drawing no_picture small fits in
-    let among = lies_among drawing.version drawing.objects (objects_place drawing) earlier frame later whole in
-    let own = canonical_version NO_PICTURE drawing no_picture small fits in
-    let same : version_at (canonical drawing) ≡ version_at bytes =
-    sym own ∙ header_gives_version bytes (header_of drawing) (damaged_stands drawing bytes earlier frame later is small whole damaged).begins in
-    let all = frames_stand drawing.version drawing.classes (canonical drawing) drawing.objects (objects_place drawing) own is.objects stand.frames in
+pub earlier_stand : (carried : Carried) (drawing : Contents) (bytes : List ℕ) (earlier : List PairFrame) (frame : PairFrame) (later : List PairFrame) → IsCarried carried → IsValid drawing → size_with carried drawing ≤ MOST_BYTES
+    → canonical_frames_with carried drawing ≡ earlier ++ frame ∷ later → IsDamagedShortly carried drawing frame bytes → EarlierStand carried drawing bytes earlier frame later
+earlier_stand carried drawing bytes earlier frame later kept is small whole damaged =
+    let fits = header_fits carried drawing is small in
+    let stand = parts_stand carried drawing kept small fits in
+    let among = lies_among drawing.version drawing.objects (objects_place_with carried drawing) earlier frame later whole in
+    let own = canonical_version carried drawing kept small fits in
+    let same : version_at (canonical_with carried drawing) ≡ version_at bytes =
+    sym own ∙ header_gives_version bytes (header_with carried drawing) (damaged_stands carried drawing bytes earlier frame later kept is small whole damaged).begins in
+    let all = frames_stand drawing.version drawing.classes (canonical_with carried drawing) drawing.objects (objects_place_with carried drawing) own is.objects stand.frames in
     let to : ℕ = length damaged.differ.before + length damaged.differ.here in
     record {
       stand =
-          frames_still drawing.classes (canonical drawing) bytes (length damaged.differ.before) to same (damaged_spliced drawing frame bytes damaged) frame.pair.place (omega (arith, damaged.from)) earlier
+          frames_still drawing.classes (canonical_with carried drawing) bytes (length damaged.differ.before) to same (damaged_spliced carried drawing frame bytes damaged) frame.pair.place (omega (arith, damaged.from)) earlier
           among.before
-          (all_of_prefix (IsFrameOfPair drawing.classes (canonical drawing)) earlier (frame ∷ later)
-          (subst (AllByRecursion (IsFrameOfPair drawing.classes (canonical drawing))) whole all)).0;
-      apart = pairs_of_prefix AreApart earlier (frame ∷ later) (subst (AllPairs AreApart) whole (frames_apart drawing.version drawing.objects (objects_place drawing)));
+          (all_of_prefix (IsFrameOfPair drawing.classes (canonical_with carried drawing)) earlier (frame ∷ later)
+          (subst (AllByRecursion (IsFrameOfPair drawing.classes (canonical_with carried drawing))) whole all)).0;
+      apart = pairs_of_prefix AreApart earlier (frame ∷ later) (subst (AllPairs AreApart) whole (frames_apart drawing.version drawing.objects (objects_place_with carried drawing)));
       before = among.before;
       whole =
-          pairs_of_frames drawing.version drawing.objects (objects_place drawing) ∙ ap (map (λ (one : PairFrame). one.pair)) whole
+          pairs_of_frames drawing.version drawing.objects (objects_place_with carried drawing) ∙ ap (map (λ (one : PairFrame). one.pair)) whole
           ∙ map-append (λ (one : PairFrame). one.pair) earlier (frame ∷ later);
     }

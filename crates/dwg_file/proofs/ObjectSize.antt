@@ -32,7 +32,7 @@ use Rattle.dwg_file.specs.Spelled.{PairFrame, IsFrameOfPair}
 use Rattle.dwg_file.specs.ObjectSize.{IsReadOf}
 
 -- a length below 2^30 is written by at most four bytes
-size_short : (long : ℕ) → long < 2 ^ 30 → length (ms.short long) ≤ 4
+pub size_short : (long : ℕ) → long < 2 ^ 30 → length (ms.short long) ≤ 4
 size_short long small = of_test (nat_lt long 32768) refl
   where
     of_test : (test : Bool) → nat_lt long 32768 ≡ test → length (ms.short long) ≤ 4

@@ -12,12 +12,11 @@ use Rattle.dwg_object.specs.Frames.{frame_bytes}
 use Rattle.dwg_object.specs.Objects.{ObjectValue, handle_of}
 use Rattle.dwg_object.proofs.StandingLemmas.{stands_first, stands_next}
 use Rattle.dwg_object.specs.Written.{IsValidObject, body_bytes}
-use Rattle.dwg_file.specs.Canonical.{NO_PICTURE, canonical, frames_bytes, objects_place, size_of}
-use Rattle.dwg_file.specs.CanonicalFrames.{canonical_frames, frames_from}
+use Rattle.dwg_file.specs.Canonical.{Carried, IsCarried, canonical_with, frames_bytes, objects_place_with, size_with}
+use Rattle.dwg_file.specs.CanonicalFrames.{canonical_frames_with, frames_from}
 use Rattle.dwg_file.proofs.CanonicalFrames.{frames_after}
 use Rattle.dwg_file.proofs.CanonicalHeader.{header_fits, pairs_head, pairs_tail}
 use Rattle.dwg_file.proofs.CanonicalLaws.{parts_stand}
-use Rattle.dwg_file.proofs.CanonicalParts.{no_picture}
 use Rattle.dwg_file.specs.Contents.{Contents}
 use Rattle.dwg_file.specs.Spelled.{PairFrame}
 use Rattle.dwg_file.specs.Valid.{IsValid}
@@ -40,10 +39,10 @@ frames_written version classes bytes (object ∷ objects) place are stands = (
 )
 
 -- so are those of the canonical file
-pub canonical_written : (drawing : Contents) → IsValid drawing → size_of drawing ≤ MOST_BYTES
-    → AllByRecursion (IsWritten drawing.version drawing.classes (canonical drawing)) (canonical_frames drawing)
-canonical_written drawing is small =
-    frames_written drawing.version drawing.classes (canonical drawing) drawing.objects (objects_place drawing) is.objects (parts_stand NO_PICTURE drawing no_picture small (header_fits NO_PICTURE drawing is small)).frames
+pub canonical_written : (carried : Carried) (drawing : Contents) → IsCarried carried → IsValid drawing → size_with carried drawing ≤ MOST_BYTES
+    → AllByRecursion (IsWritten drawing.version drawing.classes (canonical_with carried drawing)) (canonical_frames_with carried drawing)
+canonical_written carried drawing kept is small =
+    frames_written drawing.version drawing.classes (canonical_with carried drawing) drawing.objects (objects_place_with carried drawing) is.objects (parts_stand carried drawing kept small (header_fits carried drawing is small)).frames
 
 -- the frames before one of those that stand one after the other end before it, and those after it begin after its end
 pub record LiesAmong (version : Version) (place : ℕ) (objects : List ObjectValue) (earlier : List PairFrame) (frame : PairFrame) (later : List PairFrame) : Type 0 where

@@ -1,11 +1,12 @@
 -- How many bits each code is written by at the most, whatever the value.
-use Rattle.std.proofs.Common.{ℕ, zero, suc, ◌+◌, ◌*◌, ◌≤◌, Bool, true, false, List, [], ◌∷◌, ◌++◌, length, Some, arith}
+use Rattle.std.proofs.Common.{◌≡◌, ℕ, zero, suc, ◌+◌, ◌*◌, ◌<◌, ◌≤◌, Bool, true, false, List, [], ◌∷◌, ◌++◌, length, Some, arith}
 use Rattle.std.specs.Prelude.{◌-◌, ◌^◌, ◌==◌, nat_lt, find, unwrap_or, cond}
 use Rattle.std.specs.List.{AllByRecursion}
+use Rattle.std.proofs.lemmas.Bool.Decides.{nat_tests}
 use Rattle.std.proofs.lemmas.List.{length-append}
 use Rattle.dwg_bits.specs.Bits.{low_bits}
 use Rattle.dwg_bits.proofs.BitLaws.{length_of_low_bits}
-use Rattle.dwg_grammar.specs.Codes.{rc, rl, rd, bs, bl, bd, dd, bt, bt_by, bd3, be, be_by, tv, b}
+use Rattle.dwg_grammar.specs.Codes.{rc, rl, rd, bs, bl, bd, dd, bt, bt_by, bd3, be, be_by, UPWARD, tv, b}
 use Rattle.dwg_grammar.specs.Combinators.{never, choose, short_chain, chain, items}
 use Rattle.dwg_grammar.specs.Grammar.{Grammar}
 use Rattle.dwg_grammar.proofs.Bounds.{bs_at_most, bl_at_most, bd_at_most, bd3_at_most, dd_at_most}
@@ -74,6 +75,10 @@ bt_few value = both (low_few 1 _) (bt_line _ value)
 pub bd3_few : (point : Point3) → Few 198 (bd3.short point)
 bd3_few point = record { few = bd3_at_most point }
 
+-- a BT of no thickness
+pub bt_none : Few 1 (bt.short 0)
+bt_none = both (low_few 1 1) no_letters
+
 -- a BE
 be_line : (tag : ℕ) (point : Point3) → Few 198 ((be_by tag).short point)
 be_line zero point = bd3_few point
@@ -82,6 +87,10 @@ be_line (suc (suc tag)) point = loosely 198 (omega arith) no_letters
 
 pub be_few : (point : Point3) → Few 199 (be.short point)
 be_few point = both (low_few 1 _) (be_line _ point)
+
+-- that of the direction upward
+pub be_upward : Few 1 (be.short UPWARD)
+be_upward = both (low_few 1 1) no_letters
 
 -- values one after the other, each of so many bits at the most
 pub chain_few : {S V : Type 0} (code : S → Grammar Bool V) (next : V → S) (state : S) (values : List V) (most : ℕ) → ((state : S) (value : V) → Few most ((code state).short value))
@@ -121,6 +130,26 @@ bytes_few number =
 pub number_few : (number : ℕ) → Few 68 (counted_number.short number)
 number_few number = record { few = omega (arith, (both (low_few 4 (byte_count number)) (low_few (8 * byte_count number) number)).few, bytes_few number) }
 
+-- the fewest of counts from 0 to 7 for which a test holds, where it holds for 4
+fourth_few : (p : ℕ → Bool) → p 4 ≡ true → unwrap_or (find p (0 ∷ 1 ∷ 2 ∷ 3 ∷ 4 ∷ 5 ∷ 6 ∷ 7 ∷ [])) 8 ≤ 4
+fourth_few p four = of_tests (p 0) (p 1) (p 2) (p 3) (p 4) four
+  where
+    of_tests : (a b c d e : Bool) → e ≡ true
+        → unwrap_or (cond a (Some 0) (cond b (Some 1) (cond c (Some 2) (cond d (Some 3) (cond e (Some 4) (find p (5 ∷ 6 ∷ 7 ∷ []))))))) 8 ≤ 4
+    of_tests true b c d e last = omega arith
+    of_tests false true c d e last = omega arith
+    of_tests false false true d e last = omega arith
+    of_tests false false false true e last = omega arith
+    of_tests false false false false true last = omega arith
+    of_tests false false false false false last = absurd cc
+
+-- a number below 2^32 after the count of its bytes has no more than 36 bits
+pub low_number_few : (number : ℕ) → number < 2 ^ 32 → Few 36 (counted_number.short number)
+unfolding byte_count
+low_number_few number low =
+    let count : byte_count number ≤ 4 = fourth_few (λ count. nat_lt number (2 ^ (8 * count))) (grind (arith, nat_tests)) in
+    record { few = omega (arith, (both (low_few 4 (byte_count number)) (low_few (8 * byte_count number) number)).few, count) }
+
 -- what stands after the code of a reference
 choose_few : {V : Type 0} (most : ℕ) (test : Bool) (one other : Grammar Bool V) (value : V) → Few most (one.short value) → Few most (other.short value) → Few most ((choose test one other).short value)
 choose_few most true one other value few fewer = few
@@ -139,6 +168,15 @@ line_few base code value =
 pub ref_few : (base : ℕ) (value : Reference) → Few 72 ((reference base).short value)
 unfolding reference
 ref_few base value = both (low_few 4 value.code) (line_few base value.code value)
+
+-- one by a code below 6 to a handle below 2^32 has no more than 40
+pub low_ref_few : (base code target : ℕ) → nat_lt code 6 ≡ true → target < 2 ^ 32 → Few 40 ((reference base).short (record { code = code; target = target }))
+unfolding reference
+low_ref_few base code target low near = both (low_few 4 code) (of_test (nat_lt code 6) low)
+  where
+    of_test : (test : Bool) → test ≡ true → Few 36 ((choose test (absolute base code) (choose (code == 6) (next_handle base) (choose (code == 8) (handle_before base) (choose (code == 10) (ahead base) (choose (code == 12) (back base) never))))).short (record { code = code; target = target }))
+    of_test true is = low_number_few target near
+    of_test false is = absurd cc
 
 -- so many references
 pub refs_few : (base count most : ℕ) (values : List Reference) → length values ≤ most → Few (72 * most) ((items (reference base) count).short values)

@@ -17,12 +17,12 @@ use Rattle.dwg_make.proofs.CodeSizes.{Few, no_letters, both, loosely, low_few, r
 use Rattle.dwg_make.proofs.PartsMade.{IsMade, ref_fits}
 
 -- no application data
-no_app : (base : ℕ) → ((app_list base).IsValue []) × Few 18 ((app_list base).short [])
+pub no_app : (base : ℕ) → ((app_list base).IsValue []) × Few 18 ((app_list base).short [])
 unfolding app_list until
 no_app base = (tt, bs_few 0)
 
 -- no graphic
-no_graphic : (graphic.IsValue None) × Few 1 (graphic.short None)
+pub no_graphic : (graphic.IsValue None) × Few 1 (graphic.short None)
 unfolding graphic
 no_graphic = ((tt, refl), loosely 1 (omega arith) (both (b_few false) no_letters))
 

@@ -3,7 +3,6 @@ use Rattle.std.proofs.Common.{refl, ℕ, ◌+◌, ◌^◌, ◌<◌, Bool, true, 
 use Rattle.std.specs.Prelude.{codes, map}
 use Rattle.std.specs.List.{AllByRecursion}
 use Rattle.dwg_base.specs.declared.version.Version.TheVariants.{Ac1015}
-use Rattle.dwg_base.specs.Devices.{MOST_BYTES}
 use Rattle.dwg_grammar.specs.Codes.{ONE, UPWARD}
 use Rattle.dwg_grammar.specs.Combinators.{items}
 use Rattle.dwg_entities.specs.AttdefBody.{attdef_body}
@@ -22,6 +21,7 @@ use Rattle.dwg_tables.specs.InsertMarks.{mark_counts}
 use Rattle.dwg_tables.specs.declared.block_header.InsertMark.{InsertMark}
 use Rattle.dwg_make.specs.Fixed.{block_header, begin_of, attribute_definition, line_of_block, attribute, insert, model_header, model_begin, model_end, model_space, paper_header, paper_begin, paper_end, paper_space, tag_header, tag_begin, tag_end, tag_block, attributes_end, tag_insert}
 use Rattle.dwg_make.specs.Parts.{soft_pointer, flat_point, point, ORIGIN}
+use Rattle.dwg_make.proofs.ObjectsMade.{BODY_BYTES}
 use Rattle.dwg_make.proofs.CodeSizes.{Few}
 use Rattle.dwg_make.proofs.FormsMade.{IsOwn, other_small, linked_small, paper_small, owned_small}
 use Rattle.dwg_make.proofs.PartsMade.{IsWord, word_passed, no_word, variant_made}
@@ -45,7 +45,7 @@ one_mark base target small =
 
 -- the header of a block
 header_small : (handle : ℕ) (name : List ℕ) (has_attributes : Bool) (inserts : List InsertMark) (block first last endblk : ℕ) → 0 < handle → handle < 2 ^ 32 → IsWord name → AreMarks handle inserts
-    → block < 2 ^ 32 → first < 2 ^ 32 → last < 2 ^ 32 → endblk < 2 ^ 32 → IsSmall Ac1015 [] MOST_BYTES (block_header handle name has_attributes inserts block first last endblk)
+    → block < 2 ^ 32 → first < 2 ^ 32 → last < 2 ^ 32 → endblk < 2 ^ 32 → IsSmall Ac1015 [] BODY_BYTES (block_header handle name has_attributes inserts block first last endblk)
 unfolding block_header own_body kind_at fixed_kind_of TYPED_KINDS is_entity_kind
 header_small handle name has_attributes inserts block first last endblk some small word are a b c d = other_small 49 handle 0x1 _ (omega arith) (record {
   low = omega arith;
@@ -93,7 +93,7 @@ seqend_own handle some small = record {
 }
 
 -- both spaces
-pub model_space_small : (count : ℕ) → count < 2 ^ 20 → AllByRecursion (IsSmall Ac1015 [] MOST_BYTES) (model_space count)
+pub model_space_small : (count : ℕ) → count < 2 ^ 20 → AllByRecursion (IsSmall Ac1015 [] BODY_BYTES) (model_space count)
 unfolding model_space model_header model_begin model_end
 model_space_small count few =
     let name : IsWord (codes "*MODEL_SPACE") = word_passed (codes "*MODEL_SPACE") refl refl in (
@@ -104,7 +104,7 @@ model_space_small count few =
       ),
     )
 
-pub paper_space_small : AllByRecursion (IsSmall Ac1015 [] MOST_BYTES) paper_space
+pub paper_space_small : AllByRecursion (IsSmall Ac1015 [] BODY_BYTES) paper_space
 unfolding paper_space paper_header paper_begin paper_end
 paper_space_small =
     let name : IsWord (codes "*PAPER_SPACE") = word_passed (codes "*PAPER_SPACE") refl refl in (
@@ -116,7 +116,7 @@ paper_space_small =
     )
 
 -- what the block TAG holds
-definition_small : IsSmall Ac1015 [] MOST_BYTES attribute_definition
+definition_small : IsSmall Ac1015 [] BODY_BYTES attribute_definition
 unfolding attribute_definition own_body kind_at fixed_kind_of TYPED_KINDS is_entity_kind
 definition_small = owned_small 3 0x22 0x20 0 0x23 _ (omega arith) (omega arith) (omega arith) (record {
   low = omega arith;
@@ -129,7 +129,7 @@ definition_small = owned_small 3 0x22 0x20 0 0x23 _ (omega arith) (omega arith) 
       no_word (word_passed (codes "NO") refl refl) (word_passed (codes "Number") refl refl));
 })
 
-line_small : IsSmall Ac1015 [] MOST_BYTES line_of_block
+line_small : IsSmall Ac1015 [] BODY_BYTES line_of_block
 unfolding line_of_block own_body kind_at fixed_kind_of TYPED_KINDS is_entity_kind
 line_small = owned_small 19 0x23 0x20 0x22 0 _ (omega arith) (omega arith) (omega arith) (record {
   low = omega arith;
@@ -143,7 +143,7 @@ line_small = owned_small 19 0x23 0x20 0x22 0 _ (omega arith) (omega arith) (omeg
       (point_fits 0 0 ONE (omega arith) (omega arith) (omega arith)));
 })
 
-pub tag_block_small : AllByRecursion (IsSmall Ac1015 [] MOST_BYTES) tag_block
+pub tag_block_small : AllByRecursion (IsSmall Ac1015 [] BODY_BYTES) tag_block
 unfolding tag_block tag_header tag_begin tag_end
 tag_block_small =
     let name : IsWord (codes "TAG") = word_passed (codes "TAG") refl refl in (
@@ -162,7 +162,7 @@ tag_block_small =
     )
 
 -- the insert, and what belongs to it
-attribute_small : IsSmall Ac1015 [] MOST_BYTES attribute
+attribute_small : IsSmall Ac1015 [] BODY_BYTES attribute
 unfolding attribute own_body kind_at fixed_kind_of TYPED_KINDS is_entity_kind
 attribute_small = owned_small 2 0x2E 0x30 0 0 _ (omega arith) (omega arith) (omega arith) (record {
   low = omega arith;
@@ -175,7 +175,7 @@ attribute_small = owned_small 2 0x2E 0x30 0 0 _ (omega arith) (omega arith) (ome
       (word_passed (codes "A1") refl refl) (word_passed (codes "NO") refl refl));
 })
 
-insert_small : IsSmall Ac1015 [] MOST_BYTES insert
+insert_small : IsSmall Ac1015 [] BODY_BYTES insert
 unfolding insert own_body kind_at fixed_kind_of TYPED_KINDS is_entity_kind
 insert_small = linked_small 7 0x30 0 0x31 0x10 _ (omega arith) (omega arith) (omega arith) (record {
   low = omega arith;
@@ -186,7 +186,7 @@ insert_small = linked_small 7 0x30 0 0x31 0x10 _ (omega arith) (omega arith) (om
   made = variant_made bodies.Insert _ (insert_body Ac1015 0x30) _ refl (insert_made 0x30 0x20 0x2E 0x2F (omega arith) (omega arith) (omega arith));
 })
 
-pub tag_insert_small : AllByRecursion (IsSmall Ac1015 [] MOST_BYTES) tag_insert
+pub tag_insert_small : AllByRecursion (IsSmall Ac1015 [] BODY_BYTES) tag_insert
 unfolding tag_insert attributes_end
 tag_insert_small = (
   attribute_small,

@@ -3,7 +3,6 @@ use Rattle.std.proofs.Common.{refl, ℕ, zero, suc, ◌+◌, ◌-◌, ◌*◌, �
 use Rattle.std.specs.Prelude.{◌==◌, ◌%◌, codes, decimal, map, if◌then◌else◌}
 use Rattle.std.specs.List.{AllByRecursion, range_with_len}
 use Rattle.dwg_base.specs.declared.version.Version.TheVariants.{Ac1015}
-use Rattle.dwg_base.specs.Devices.{MOST_BYTES}
 use Rattle.dwg_grammar.specs.Codes.{UPWARD, ONE}
 use Rattle.dwg_entities.specs.TextBody.{text_body}
 use Rattle.dwg_file.proofs.ObjectSize.{IsSmall}
@@ -20,6 +19,7 @@ use Rattle.dwg_make.specs.Draws.{STATES_OF_ENTITY, draw_from}
 use Rattle.dwg_make.specs.RandomEntities.{further_number, further_body, further_handle, further_layer, drawn_entity, further_entity}
 use Rattle.dwg_make.specs.Parts.{flat_point, point, links, model_entity}
 use Rattle.dwg_make.specs.Random.{next_state, state_at, word_of}
+use Rattle.dwg_make.proofs.ObjectsMade.{BODY_BYTES}
 use Rattle.dwg_make.proofs.CommonsMade.{unlinked}
 use Rattle.dwg_make.proofs.FormsMade.{IsOwn, model_small, linked_small}
 use Rattle.dwg_make.proofs.PartsMade.{numbered_word, variant_made}
@@ -103,7 +103,7 @@ further_own (suc (suc (suc (suc (suc choice))))) number word few small = record 
 
 -- an entity of the model space that has links or none
 maybe_linked : (test : Bool) (number handle previous layer : ℕ) (value : Body) → previous < 2 ^ 32 → layer < 2 ^ 32 → IsOwn true number handle value
-    → IsSmall Ac1015 [] MOST_BYTES (model_entity number handle (if test then Some (links previous 0) else None) layer value)
+    → IsSmall Ac1015 [] BODY_BYTES (model_entity number handle (if test then Some (links previous 0) else None) layer value)
 maybe_linked true number handle previous layer value near far is = linked_small number handle previous 0 layer value near (omega arith) far is
 maybe_linked false number handle previous layer value near far is = model_small number handle None layer value (unlinked handle).0 (unlinked handle).1 far is
 
@@ -112,7 +112,7 @@ layer_low true = omega arith
 layer_low false = omega arith
 
 -- the entity of the draw from a state
-drawn_small : (count number state : ℕ) → state < 2 ^ 32 → number < 10 ^ 7 → IsSmall Ac1015 [] MOST_BYTES (drawn_entity count number (draw_from state))
+drawn_small : (count number state : ℕ) → state < 2 ^ 32 → number < 10 ^ 7 → IsSmall Ac1015 [] BODY_BYTES (drawn_entity count number (draw_from state))
 unfolding drawn_entity draw_from
 drawn_small count number state small few =
     maybe_linked (number == count) (further_number (state_at state 1 % 6)) (further_handle number) (further_handle number - 1) (further_layer number) _ (omega arith)
@@ -120,12 +120,12 @@ drawn_small count number state small few =
     (further_own (state_at state 1 % 6) number (λ k. word_of (state_at state k)) few (λ k. word_small _ (state_small state k small)))
 
 -- a further entity
-further_small : (count seed number : ℕ) → seed < 2 ^ 32 → number < 10 ^ 7 → IsSmall Ac1015 [] MOST_BYTES (further_entity count seed number)
+further_small : (count seed number : ℕ) → seed < 2 ^ 32 → number < 10 ^ 7 → IsSmall Ac1015 [] BODY_BYTES (further_entity count seed number)
 unfolding further_entity
 further_small count seed number small few =
     drawn_small count number (state_at seed (STATES_OF_ENTITY * (number - 1))) (state_small seed (STATES_OF_ENTITY * (number - 1)) small) few
 
 -- and so many from a number on
-pub all_further : (count seed from left : ℕ) → seed < 2 ^ 32 → from + left < 10 ^ 7 → AllByRecursion (IsSmall Ac1015 [] MOST_BYTES) (map (further_entity count seed) (range_with_len from left))
+pub all_further : (count seed from left : ℕ) → seed < 2 ^ 32 → from + left < 10 ^ 7 → AllByRecursion (IsSmall Ac1015 [] BODY_BYTES) (map (further_entity count seed) (range_with_len from left))
 all_further count seed from zero small few = tt
 all_further count seed from (suc left) small few = (further_small count seed from small (omega arith), all_further count seed (from + 1) left small (omega arith))

@@ -10,6 +10,7 @@ pub mod FormsMade
 pub mod FixedObjects
 pub mod FixedBlocks
 pub mod FurtherObjects
+pub mod FurtherSizes
 pub mod Ascending
 pub mod Validity
 pub mod DrawsAlong

@@ -1,7 +1,6 @@
 -- An object whose parts fit and are written by few bits is valid and small.
 use Rattle.std.proofs.Common.{◌≡◌, ◌∙◌, ap, ℕ, ◌+◌, ◌*◌, ◌^◌, ◌≤◌, ◌<◌, ◌%◌, Bool, List, [], ◌++◌, length, arith}
 use Rattle.std.proofs.lemmas.List.{length-append}
-use Rattle.dwg_base.specs.Devices.{MOST_BYTES}
 use Rattle.dwg_base.specs.declared.version.Version.TheVariants.{Ac1015}
 use Rattle.dwg_common.specs.Layouts.{NEWER}
 use Rattle.dwg_bits.specs.Sink.{padding}
@@ -21,8 +20,12 @@ use Rattle.dwg_object.specs.Written.{common_main, common_refs, main_size, writte
 use Rattle.dwg_make.proofs.CodeSizes.{Few, both, low_few, bs_few, rl_few, number_few}
 use Rattle.dwg_make.proofs.PartsMade.{IsMade}
 
+-- how many bytes the body of a made object has at the most
+abbrev pub BODY_BYTES : ℕ
+BODY_BYTES = 32784
+
 -- a head
-head_few : (parts : HeadParts) → Few 122 ((head Ac1015).short parts)
+pub head_few : (parts : HeadParts) → Few 122 ((head Ac1015).short parts)
 unfolding head own_handle
 head_few parts = both (bs_few parts.number) (both (rl_few parts.size) (both (low_few 4 0) (number_few parts.own)))
 
@@ -34,7 +37,7 @@ bits_few number handle common own refs main named own_few refs_few =
     both (both (head_few (written_head Ac1015 number handle (main_size Ac1015 number handle common own))) (both main own_few)) (both named refs_few)
 
 -- bits that are padded to bytes
-padded_few : (letters : List Bool) (most : ℕ) → Few most letters → 8 * length (whole_bytes (letters ++ padding letters)) ≤ most + 7
+pub padded_few : (letters : List Bool) (most : ℕ) → Few most letters → 8 * length (whole_bytes (letters ++ padding letters)) ≤ most + 7
 padded_few letters most few =
     let fills = padding_fills letters in
     let joined : length (letters ++ padding letters) ≡ length letters + length (padding letters) = length-append letters (padding letters) in
@@ -48,7 +51,7 @@ padded_few letters most few =
 -- an object that is made
 pub typed_made : (number handle : ℕ) (common : Common) (value : Body) → number < 2 ^ 16 → 0 < handle → handle < 2 ^ 63 → kind_under [] number ≡ body_kind value
     → is_of_entity common ≡ is_entity_kind (body_kind value) → IsMade (common_part NEWER (is_of_entity common) handle) common → IsMade (own_body Ac1015 (body_kind value) handle) value
-    → IsSmall Ac1015 [] MOST_BYTES (TypedValue number handle common value)
+    → IsSmall Ac1015 [] BODY_BYTES (TypedValue number handle common value)
 typed_made number handle common value low some small kind entity made own =
     let letters : List Bool = object_bits Ac1015 number handle common (own_main Ac1015 handle value) (own_refs Ac1015 handle value) in
     let few : 8 * length (whole_bytes (letters ++ padding letters)) ≤ 262273 =

@@ -24,7 +24,7 @@ heights_few true start end = loosely 130 (omega arith) no_letters
 heights_few false start end = both (rd_few start) (dd_few start end)
 
 -- both ends
-ends_few : (start end : Point3) → Few 391 (newer_ends.short (record { start = start; end = end }))
+pub ends_few : (start end : Point3) → Few 391 (newer_ends.short (record { start = start; end = end }))
 ends_few start end =
     both (b_few (is_flat (record { start = start; end = end })))
     (both (rd_few start.x) (both (dd_few start.x end.x) (both (rd_few start.y) (both (dd_few start.y end.y) (heights_few (is_flat (record { start = start; end = end })) start.z end.z)))))
@@ -71,7 +71,7 @@ arc_made base arc centre radius thickness extrusion start end = record {
 }
 
 -- a vertex of a polyline
-vertex_few : (before : Option Point2) (point : Point2) → Few 132 ((vertex before).short point)
+pub vertex_few : (before : Option Point2) (point : Point2) → Few 132 ((vertex before).short point)
 vertex_few None point = loosely 132 (omega arith) (both (rd_few point.x) (rd_few point.y))
 vertex_few (Some before) point = both (dd_few before.x point.x) (dd_few before.y point.y)
 

@@ -13,13 +13,13 @@ use Rattle.dwg_base.specs.Refusals.{Tried}
 use Rattle.dwg_bits.specs.Bits.{bits}
 use Rattle.dwg_classes.specs.declared.class.Class.{Class}
 use Rattle.dwg_classes.specs.Class.{AreClasses}
-use Rattle.dwg_file.specs.CanonicalFrames.{canonical_frames}
-use Rattle.dwg_file.specs.Canonical.{NO_PICTURE, canonical, class_content, classes_place, header_of as canonical_header, map_of, map_place, objects_place, others_place, placed, preview_place, size_of, variables_place}
+use Rattle.dwg_file.specs.CanonicalFrames.{canonical_frames_with}
+use Rattle.dwg_file.specs.Canonical.{Carried, IsCarried, canonical_with, class_content, classes_place, header_with, map_with, map_place_with, objects_place_with, others_place_with, placed, preview_place, size_with, variables_place}
 use Rattle.dwg_file.proofs.CanonicalFrames.{frames_stand, objects_of_frames, pairs_of_frames as placed_pairs}
 use Rattle.dwg_file.proofs.CanonicalHeader.{header_fits}
 use Rattle.dwg_file.proofs.CanonicalLaws.{canonical_ascends, canonical_begins, canonical_version, header_reaches, parts_stand}
 use Rattle.dwg_file.specs.CanonicalBytes.{HasPart}
-use Rattle.dwg_file.proofs.CanonicalParts.{length_of_framed, no_picture}
+use Rattle.dwg_file.proofs.CanonicalParts.{length_of_framed}
 use Rattle.dwg_file.specs.Contents.{Contents}
 use Rattle.dwg_file.proofs.ReadingLemmas.{SectionLaws}
 use Rattle.dwg_file.specs.Spelled.{PairFrame}
@@ -63,65 +63,65 @@ stands_also bytes others piece from to long stands reaches same =
 
 -- the canonical file has its parts at their places
 pub canonical_parts_stand : CanonicalPartsStand
-canonical_parts_stand drawing is small =
-    let fits = header_fits NO_PICTURE drawing is small in
-    let stand = parts_stand NO_PICTURE drawing no_picture small fits in
+canonical_parts_stand carried drawing kept is small =
+    let fits = header_fits carried drawing is small in
+    let stand = parts_stand carried drawing kept small fits in
     record {
-      begins = canonical_begins NO_PICTURE drawing no_picture small fits;
-      reaches = header_reaches NO_PICTURE drawing fits;
+      begins = canonical_begins carried drawing kept small fits;
+      reaches = header_reaches carried drawing fits;
       pages = stand.mapped;
       classes = record { size = omega arith; stands = stand.classes };
       mapped =
-          subst (MapOf (canonical drawing) (map_place drawing)) (placed_pairs drawing.version drawing.objects (objects_place drawing))
-          (map_is_written (map_place drawing) (canonical drawing) (placed drawing.version (objects_place drawing) drawing.objects) (canonical_ascends NO_PICTURE drawing no_picture is) stand.mapped);
-      objects = objects_of_frames drawing.version drawing.objects (objects_place drawing);
-      stand = frames_stand drawing.version drawing.classes (canonical drawing) drawing.objects (objects_place drawing) (canonical_version NO_PICTURE drawing no_picture small fits) is.objects stand.frames;
+          subst (MapOf (canonical_with carried drawing) (map_place_with carried drawing)) (placed_pairs drawing.version drawing.objects (objects_place_with carried drawing))
+          (map_is_written (map_place_with carried drawing) (canonical_with carried drawing) (placed drawing.version (objects_place_with carried drawing) drawing.objects) (canonical_ascends carried drawing kept is) stand.mapped);
+      objects = objects_of_frames drawing.version drawing.objects (objects_place_with carried drawing);
+      stand = frames_stand drawing.version drawing.classes (canonical_with carried drawing) drawing.objects (objects_place_with carried drawing) (canonical_version carried drawing kept small fits) is.objects stand.frames;
     }
 
 -- the header and the map of an input that is partly intact
-pub record IntactParts (drawing : Contents) (bytes : List ℕ) : Type 0 where
-  pub begins : BeginsWithHeader bytes (canonical_header drawing)
-  pub mapped : MapOf bytes (map_place drawing) (pairs_framed (canonical_frames drawing))
+pub record IntactParts (carried : Carried) (drawing : Contents) (bytes : List ℕ) : Type 0 where
+  pub begins : BeginsWithHeader bytes (header_with carried drawing)
+  pub mapped : MapOf bytes (map_place_with carried drawing) (pairs_framed (canonical_frames_with carried drawing))
 
 -- they are those of the canonical file
-pub parts_are_intact : (drawing : Contents) (bytes : List ℕ) → IsValid drawing → size_of drawing ≤ MOST_BYTES → IsPartlyIntact drawing bytes → IntactParts drawing bytes
-parts_are_intact drawing bytes is small intact =
-    let fits = header_fits NO_PICTURE drawing is small in
-    let stand = parts_stand NO_PICTURE drawing no_picture small fits in
-    let header : List ℕ = header_bytes (canonical_header drawing) in
-    let first : StandsAt (canonical drawing) 0 header = record { before = []; after = stand.begins.0; whole = stand.begins.1; far = refl } in
-    let reaches : variables_place drawing ≡ 0 + length header = omega (arith, header_reaches NO_PICTURE drawing fits) in
-    let prefix : StandsAt bytes 0 header = stands_also bytes (canonical drawing) header 0 (variables_place drawing) intact.long first reaches intact.header in
-    let pages : StandsAt bytes (map_place drawing) (map_of drawing) =
-    stands_also bytes (canonical drawing) (map_of drawing) (map_place drawing) (others_place drawing) intact.long stand.mapped refl intact.mapped in
+pub parts_are_intact : (carried : Carried) (drawing : Contents) (bytes : List ℕ) → IsCarried carried → IsValid drawing → size_with carried drawing ≤ MOST_BYTES → IsPartlyIntact carried drawing bytes → IntactParts carried drawing bytes
+parts_are_intact carried drawing bytes kept is small intact =
+    let fits = header_fits carried drawing is small in
+    let stand = parts_stand carried drawing kept small fits in
+    let header : List ℕ = header_bytes (header_with carried drawing) in
+    let first : StandsAt (canonical_with carried drawing) 0 header = record { before = []; after = stand.begins.0; whole = stand.begins.1; far = refl } in
+    let reaches : variables_place drawing ≡ 0 + length header = omega (arith, header_reaches carried drawing fits) in
+    let prefix : StandsAt bytes 0 header = stands_also bytes (canonical_with carried drawing) header 0 (variables_place drawing) intact.long first reaches intact.header in
+    let pages : StandsAt bytes (map_place_with carried drawing) (map_with carried drawing) =
+    stands_also bytes (canonical_with carried drawing) (map_with carried drawing) (map_place_with carried drawing) (others_place_with carried drawing) intact.long stand.mapped refl intact.mapped in
     record {
       begins = record { in_range = fits; stands = (prefix.after, drop_stands bytes 0 header prefix) };
       mapped =
-          subst (MapOf bytes (map_place drawing)) (placed_pairs drawing.version drawing.objects (objects_place drawing))
-          (map_is_written (map_place drawing) bytes (placed drawing.version (objects_place drawing) drawing.objects) (canonical_ascends NO_PICTURE drawing no_picture is) pages);
+          subst (MapOf bytes (map_place_with carried drawing)) (placed_pairs drawing.version drawing.objects (objects_place_with carried drawing))
+          (map_is_written (map_place_with carried drawing) bytes (placed drawing.version (objects_place_with carried drawing) drawing.objects) (canonical_ascends carried drawing kept is) pages);
     }
 
 -- so it is read by the version of the drawing
-pub intact_version : (drawing : Contents) (bytes : List ℕ) → IntactParts drawing bytes → drawing.version ≡ version_at bytes
-intact_version drawing bytes parts = header_gives_version bytes (canonical_header drawing) parts.begins
+pub intact_version : (carried : Carried) (drawing : Contents) (bytes : List ℕ) → IntactParts carried drawing bytes → drawing.version ≡ version_at bytes
+intact_version carried drawing bytes parts = header_gives_version bytes (header_with carried drawing) parts.begins
 
 -- the classes of an input that has that part
-pub classes_are_intact : (drawing : Contents) (bytes : List ℕ) → IsValid drawing → size_of drawing ≤ MOST_BYTES → IsPartlyIntact drawing bytes
-    → HasPart drawing bytes (classes_place drawing) (preview_place drawing) → FramedAt bytes (classes_place drawing) framed.Classes (class_content drawing.classes)
-classes_are_intact drawing bytes is small intact same =
-    let stand = parts_stand NO_PICTURE drawing no_picture small (header_fits NO_PICTURE drawing is small) in
+pub classes_are_intact : (carried : Carried) (drawing : Contents) (bytes : List ℕ) → IsCarried carried → IsValid drawing → size_with carried drawing ≤ MOST_BYTES → IsPartlyIntact carried drawing bytes
+    → HasPart carried drawing bytes (classes_place drawing) (preview_place drawing) → FramedAt bytes (classes_place drawing) framed.Classes (class_content drawing.classes)
+classes_are_intact carried drawing bytes kept is small intact same =
+    let stand = parts_stand carried drawing kept small (header_fits carried drawing is small) in
     let section : List ℕ = framed_bytes framed.Classes (class_content drawing.classes) in
     let reaches : preview_place drawing ≡ classes_place drawing + length section = omega (arith, length_of_framed framed.Classes (class_content drawing.classes)) in
-    record { size = omega arith; stands = stands_also bytes (canonical drawing) section (classes_place drawing) (preview_place drawing) intact.long stand.classes reaches same }
+    record { size = omega arith; stands = stands_also bytes (canonical_with carried drawing) section (classes_place drawing) (preview_place drawing) intact.long stand.classes reaches same }
 
 -- and so with the header variables
-pub variables_are_intact : (drawing : Contents) (bytes : List ℕ) → IsValid drawing → size_of drawing ≤ MOST_BYTES → IsPartlyIntact drawing bytes
-    → HasPart drawing bytes (variables_place drawing) (classes_place drawing) → FramedAt bytes (variables_place drawing) framed.Variables drawing.variables
-variables_are_intact drawing bytes is small intact same =
-    let stand = parts_stand NO_PICTURE drawing no_picture small (header_fits NO_PICTURE drawing is small) in
+pub variables_are_intact : (carried : Carried) (drawing : Contents) (bytes : List ℕ) → IsCarried carried → IsValid drawing → size_with carried drawing ≤ MOST_BYTES → IsPartlyIntact carried drawing bytes
+    → HasPart carried drawing bytes (variables_place drawing) (classes_place drawing) → FramedAt bytes (variables_place drawing) framed.Variables drawing.variables
+variables_are_intact carried drawing bytes kept is small intact same =
+    let stand = parts_stand carried drawing kept small (header_fits carried drawing is small) in
     let section : List ℕ = framed_bytes framed.Variables drawing.variables in
     let reaches : classes_place drawing ≡ variables_place drawing + length section = omega (arith, length_of_framed framed.Variables drawing.variables) in
-    record { size = omega arith; stands = stands_also bytes (canonical drawing) section (variables_place drawing) (classes_place drawing) intact.long stand.variables reaches same }
+    record { size = omega arith; stands = stands_also bytes (canonical_with carried drawing) section (variables_place drawing) (classes_place drawing) intact.long stand.variables reaches same }
 
 -- the pairs of written frames have positive handles
 pub written_positive : (version : Version) (classes : List Class) (bytes : List ℕ) (frames : List PairFrame) → AllByRecursion (IsWritten version classes bytes) frames
@@ -131,11 +131,11 @@ written_positive version classes bytes (frame ∷ frames) are =
     (omega (arith, are.0.own, (valid_handle version classes frame.object are.0.valid).0), written_positive version classes bytes frames are.1)
 
 -- a frame that an input has stands there with the body that is written
-pub frame_is_intact : (drawing : Contents) (bytes : List ℕ) (frame : PairFrame) → IsPartlyIntact drawing bytes → IsWritten drawing.version drawing.classes (canonical drawing) frame
-    → HasPart drawing bytes frame.pair.place frame.end → FrameAt bytes frame.pair.place (body_bytes drawing.version frame.object) frame.end
-frame_is_intact drawing bytes frame intact written same =
+pub frame_is_intact : (carried : Carried) (drawing : Contents) (bytes : List ℕ) (frame : PairFrame) → IsPartlyIntact carried drawing bytes → IsWritten drawing.version drawing.classes (canonical_with carried drawing) frame
+    → HasPart carried drawing bytes frame.pair.place frame.end → FrameAt bytes frame.pair.place (body_bytes drawing.version frame.object) frame.end
+frame_is_intact carried drawing bytes frame intact written same =
     let stands : StandsAt bytes frame.pair.place (frame_bytes drawing.version frame.object) =
-    stands_also bytes (canonical drawing) (frame_bytes drawing.version frame.object) frame.pair.place frame.end intact.long written.stands written.ends same in
+    stands_also bytes (canonical_with carried drawing) (frame_bytes drawing.version frame.object) frame.pair.place frame.end intact.long written.stands written.ends same in
     subst (FrameAt bytes frame.pair.place (body_bytes drawing.version frame.object)) (sym written.ends)
     (written_frame drawing.version bytes frame.pair.place frame.object (valid_fits drawing.version drawing.classes frame.object written.valid).2 stands)
 
@@ -147,11 +147,11 @@ form_holds classes bytes place body end object frame form =
     (body, head.0.number, frame, subst (BeginsWithHead (version_at bytes) (bits body) head.0.number) (sym head.3) (begins_head (bits body) head.0 head.1))
 
 -- so a frame that an input has holds there
-pub intact_holds : (drawing : Contents) (bytes : List ℕ) (frame : PairFrame) → drawing.version ≡ version_at bytes → IsPartlyIntact drawing bytes → IsWritten drawing.version drawing.classes (canonical drawing) frame
-    → HasPart drawing bytes frame.pair.place frame.end → FrameHolds bytes frame.pair.place frame.pair.handle frame.end
-intact_holds drawing bytes frame by intact written same =
+pub intact_holds : (carried : Carried) (drawing : Contents) (bytes : List ℕ) (frame : PairFrame) → drawing.version ≡ version_at bytes → IsPartlyIntact carried drawing bytes → IsWritten drawing.version drawing.classes (canonical_with carried drawing) frame
+    → HasPart carried drawing bytes frame.pair.place frame.end → FrameHolds bytes frame.pair.place frame.pair.handle frame.end
+intact_holds carried drawing bytes frame by intact written same =
     subst (λ own. FrameHolds bytes frame.pair.place own frame.end) (sym written.own)
-    (form_holds drawing.classes bytes frame.pair.place (body_bytes drawing.version frame.object) frame.end frame.object (frame_is_intact drawing bytes frame intact written same)
+    (form_holds drawing.classes bytes frame.pair.place (body_bytes drawing.version frame.object) frame.end frame.object (frame_is_intact carried drawing bytes frame intact written same)
     (subst (λ (v : Version). FormOf v drawing.classes (body_bytes drawing.version frame.object) frame.object) by (valid_is_form drawing.version drawing.classes frame.object written.valid)))
 
 -- what stands at a place as the body of a frame is found there as one

@@ -28,6 +28,9 @@ pub mod SectionFinding
 pub mod ShortDamage
 pub mod ReportedLemmas
 pub mod ReportedLosses
+pub mod ListOrders
+pub mod PickedLosses
+pub mod LossOrder
 pub mod WalkAlong
 pub mod WalkStanding
 pub mod WholeLemmas

@@ -188,14 +188,14 @@ free_reported (first ∷ frames) number = of_test (is_number number first.pair) 
         from none = rest ∙ others.1 (λ frame is. none frame (inr is))
 
 -- an unknown section passes the end exactly where its test says so
-cut_reported : (bytes : List ℕ) (locator : Locator) → (is_cut bytes locator ≡ true) ↔ ((3 ≤ locator.number) × (0 < locator.size) × (length bytes < locator.place + locator.size))
+pub cut_reported : (bytes : List ℕ) (locator : Locator) → (is_cut bytes locator ≡ true) ↔ ((3 ≤ locator.number) × (0 < locator.size) × (length bytes < locator.place + locator.size))
 cut_reported bytes locator = (
   (λ cut. (grind (arith, nat_tests, cut), grind (arith, nat_tests, cut), grind (arith, nat_tests, cut))),
   (λ is. grind (arith, nat_tests, is.0, is.1, is.2)),
 )
 
 -- what is none is tested so
-none_reported : {A : Type 0} (found : Option A) → (is_none found ≡ true) ↔ (found ≡ None)
+pub none_reported : {A : Type 0} (found : Option A) → (is_none found ≡ true) ↔ (found ≡ None)
 none_reported None = ((λ is. refl), λ is. refl)
 none_reported (Some one) = ((λ is. absurd cc), λ is. absurd cc)
 
@@ -215,7 +215,7 @@ end_reported (Some place) loss = (to, from)
     from (at, same, is) = let here : at ≡ place = cc in inl (is ∙ ap MapEnd here)
 
 -- a check word is wrong exactly where its test fails
-wrong_reported : (bytes : List ℕ) (place : ℕ) → (page_holds_at bytes place ≡ false) ↔ (HasPageWord bytes place → ⊥)
+pub wrong_reported : (bytes : List ℕ) (place : ℕ) → (page_holds_at bytes place ≡ false) ↔ (HasPageWord bytes place → ⊥)
 wrong_reported bytes place = ((λ failed right. never (sym failed ∙ (right_reported bytes place).1 right)), λ wrong. of_test (page_holds_at bytes place) refl wrong)
   where
     never : false ≡ true → ⊥

@@ -8,10 +8,10 @@ use Rattle.std.proofs.lemmas.Option.{same_Some}
 use Rattle.dwg_base.specs.Bytes.{AreBytes}
 use Rattle.dwg_base.specs.Devices.{MOST_BYTES}
 use Rattle.dwg_base.specs.Refusals.{first_fault}
-use Rattle.dwg_file.specs.CanonicalFrames.{canonical_frames}
-use Rattle.dwg_file.specs.Canonical.{canonical, class_content, classes_place, header_of as canonical_header, map_place, objects_place, others_bytes, others_located, others_place, size_of, variables_place}
+use Rattle.dwg_file.specs.CanonicalFrames.{canonical_frames_with}
+use Rattle.dwg_file.specs.Canonical.{Carried, IsCarried, canonical_with, class_content, classes_place, header_with, map_place_with, objects_place_with, others_bytes, others_located, others_place_with, size_with, variables_place}
 use Rattle.dwg_file.specs.CanonicalBytes.{HasPart}
-use Rattle.dwg_file.proofs.CanonicalLaws.{canonical_is_counted}
+use Rattle.dwg_file.proofs.CanonicalLaws.{carrying_is_counted}
 use Rattle.dwg_file.proofs.CanonicalParts.{content_is_classes}
 use Rattle.dwg_file.specs.Contents.{Contents, OtherValue}
 use Rattle.dwg_file.specs.FileLines.{ALL_LINES, is_cut}
@@ -50,33 +50,34 @@ use Rattle.dwg_recover.specs.Walks.{lost_end, lost_pages}
 use Rattle.dwg_recover.proofs.WholeRecovery.{recovered_of_damaged}
 
 -- an input in which all is as in the canonical file but for one frame, and no frame with the handle of its pair holds at its place
-record IsButOneFrame (drawing : Contents) (bytes : List ℕ) (earlier : List PairFrame) (frame : PairFrame) (later : List PairFrame) : Type 0 where
+record IsButOneFrame (carried : Carried) (drawing : Contents) (bytes : List ℕ) (earlier : List PairFrame) (frame : PairFrame) (later : List PairFrame) : Type 0 where
   are : AreBytes bytes
+  kept : IsCarried carried
   valid : IsValid drawing
-  small : size_of drawing ≤ MOST_BYTES
-  whole : canonical_frames drawing ≡ earlier ++ frame ∷ later
-  same : ElseIsSame drawing bytes earlier later
+  small : size_with carried drawing ≤ MOST_BYTES
+  whole : canonical_frames_with carried drawing ≡ earlier ++ frame ∷ later
+  same : ElseIsSame carried drawing bytes earlier later
   fails : (end : ℕ) → FrameHolds bytes frame.pair.place frame.pair.handle end → ⊥
 
 -- each other frame is one of the canonical file, and the input has it
-record IsOtherFrame (drawing : Contents) (bytes : List ℕ) (one : PairFrame) : Type 0 where
-  among : IsOneOf one (canonical_frames drawing)
-  has : HasPart drawing bytes one.pair.place one.end
+record IsOtherFrame (carried : Carried) (drawing : Contents) (bytes : List ℕ) (one : PairFrame) : Type 0 where
+  among : IsOneOf one (canonical_frames_with carried drawing)
+  has : HasPart carried drawing bytes one.pair.place one.end
 
-other_frame : (drawing : Contents) (bytes : List ℕ) (earlier : List PairFrame) (frame : PairFrame) (later : List PairFrame) → IsButOneFrame drawing bytes earlier frame later → (one : PairFrame)
-    → IsOneOf one earlier ⊎ IsOneOf one later → IsOtherFrame drawing bytes one
-other_frame drawing bytes earlier frame later but one (inl is) = record {
+other_frame : (carried : Carried) (drawing : Contents) (bytes : List ℕ) (earlier : List PairFrame) (frame : PairFrame) (later : List PairFrame) → IsButOneFrame carried drawing bytes earlier frame later → (one : PairFrame)
+    → IsOneOf one earlier ⊎ IsOneOf one later → IsOtherFrame carried drawing bytes one
+other_frame carried drawing bytes earlier frame later but one (inl is) = record {
   among = subst (IsOneOf one) (sym but.whole) (in_first one earlier (frame ∷ later) is);
-  has = one_of_all (λ (one : PairFrame). HasPart drawing bytes one.pair.place one.end) earlier one but.same.before is;
+  has = one_of_all (λ (one : PairFrame). HasPart carried drawing bytes one.pair.place one.end) earlier one but.same.before is;
 }
-other_frame drawing bytes earlier frame later but one (inr is) = record {
+other_frame carried drawing bytes earlier frame later but one (inr is) = record {
   among = subst (IsOneOf one) (sym but.whole) (in_second one earlier (frame ∷ later) (inr is));
-  has = one_of_all (λ (one : PairFrame). HasPart drawing bytes one.pair.place one.end) later one but.same.after is;
+  has = one_of_all (λ (one : PairFrame). HasPart carried drawing bytes one.pair.place one.end) later one but.same.after is;
 }
 
 -- so such an input is partly intact
-is_partly_intact : (drawing : Contents) (bytes : List ℕ) (earlier : List PairFrame) (frame : PairFrame) (later : List PairFrame) → IsButOneFrame drawing bytes earlier frame later → IsPartlyIntact drawing bytes
-is_partly_intact drawing bytes earlier frame later but = record {
+is_partly_intact : (carried : Carried) (drawing : Contents) (bytes : List ℕ) (earlier : List PairFrame) (frame : PairFrame) (later : List PairFrame) → IsButOneFrame carried drawing bytes earlier frame later → IsPartlyIntact carried drawing bytes
+is_partly_intact carried drawing bytes earlier frame later but = record {
   long = but.same.long;
   header = but.same.header;
   mapped = but.same.mapped;
@@ -84,32 +85,32 @@ is_partly_intact drawing bytes earlier frame later but = record {
 }
   where
     of_case : (one : PairFrame) → IsOneOf one earlier ⊎ IsOneOf one (frame ∷ later)
-        → HasPart drawing bytes one.pair.place one.end ⊎ ((end : ℕ) → FrameHolds bytes one.pair.place one.pair.handle end → ⊥)
-    of_case one (inl is) = inl (other_frame drawing bytes earlier frame later but one (inl is)).has
+        → HasPart carried drawing bytes one.pair.place one.end ⊎ ((end : ℕ) → FrameHolds bytes one.pair.place one.pair.handle end → ⊥)
+    of_case one (inl is) = inl (other_frame carried drawing bytes earlier frame later but one (inl is)).has
     of_case one (inr (inl same)) = inr (subst (λ (one : PairFrame). (end : ℕ) → FrameHolds bytes one.pair.place one.pair.handle end → ⊥) (sym same) but.fails)
-    of_case one (inr (inr is)) = inl (other_frame drawing bytes earlier frame later but one (inr is)).has
+    of_case one (inr (inr is)) = inl (other_frame carried drawing bytes earlier frame later but one (inr is)).has
 
 -- the pairs of the map, in two at that of the frame
-pairs_split : (drawing : Contents) (earlier : List PairFrame) (frame : PairFrame) (later : List PairFrame) → canonical_frames drawing ≡ earlier ++ frame ∷ later
-    → pairs_framed (canonical_frames drawing) ≡ pairs_framed earlier ++ frame.pair ∷ pairs_framed later
-pairs_split drawing earlier frame later whole =
+pairs_split : (carried : Carried) (drawing : Contents) (earlier : List PairFrame) (frame : PairFrame) (later : List PairFrame) → canonical_frames_with carried drawing ≡ earlier ++ frame ∷ later
+    → pairs_framed (canonical_frames_with carried drawing) ≡ pairs_framed earlier ++ frame.pair ∷ pairs_framed later
+pairs_split carried drawing earlier frame later whole =
     ap (map (λ (frame : PairFrame). frame.pair)) whole ∙ map-append (λ (frame : PairFrame). frame.pair) earlier (frame ∷ later)
 
 -- for the number of each other pair a frame is kept
-other_is_kept : (drawing : Contents) (bytes : List ℕ) (earlier : List PairFrame) (frame : PairFrame) (later : List PairFrame) (number : ℕ) (one : PairFrame) → IsButOneFrame drawing bytes earlier frame later
-    → IsOneOf one earlier ⊎ IsOneOf one later → IsAt number one.pair (pairs_framed (canonical_frames drawing))
-    → is_kept_pair (mapped_frames bytes (pairs_framed (canonical_frames drawing))) number ≡ true
-other_is_kept drawing bytes earlier frame later number one but is at =
-    let other = other_frame drawing bytes earlier frame later but one is in
-    let intact = is_partly_intact drawing bytes earlier frame later but in
-    let all = canonical_written drawing but.valid but.small in
-    let positive = written_positive drawing.version drawing.classes (canonical drawing) (canonical_frames drawing) all in
+other_is_kept : (carried : Carried) (drawing : Contents) (bytes : List ℕ) (earlier : List PairFrame) (frame : PairFrame) (later : List PairFrame) (number : ℕ) (one : PairFrame) → IsButOneFrame carried drawing bytes earlier frame later
+    → IsOneOf one earlier ⊎ IsOneOf one later → IsAt number one.pair (pairs_framed (canonical_frames_with carried drawing))
+    → is_kept_pair (mapped_frames bytes (pairs_framed (canonical_frames_with carried drawing))) number ≡ true
+other_is_kept carried drawing bytes earlier frame later number one but is at =
+    let other = other_frame carried drawing bytes earlier frame later but one is in
+    let intact = is_partly_intact carried drawing bytes earlier frame later but in
+    let all = canonical_written carried drawing but.kept but.valid but.small in
+    let positive = written_positive drawing.version drawing.classes (canonical_with carried drawing) (canonical_frames_with carried drawing) all in
     let holds =
-    intact_holds drawing bytes one (intact_version drawing bytes (parts_are_intact drawing bytes but.valid but.small intact)) intact (one_of_all (IsWritten drawing.version drawing.classes (canonical drawing)) (canonical_frames drawing) one all other.among) other.has in
-    kept_reported (mapped_frames bytes (pairs_framed (canonical_frames drawing))) number (frame_of number one.pair one.end)
-    (numbered_is_kept (candidates_hold held_frame) bytes drawing.version drawing.objects (objects_place drawing) number one but.are but.valid.ascending positive
-    (each_holds_or_none drawing bytes but.valid but.small intact) at
-    (one_of_all (λ (one : PairFrame). 0 < one.pair.handle) (canonical_frames drawing) one positive other.among) holds)
+    intact_holds carried drawing bytes one (intact_version carried drawing bytes (parts_are_intact carried drawing bytes but.kept but.valid but.small intact)) intact (one_of_all (IsWritten drawing.version drawing.classes (canonical_with carried drawing)) (canonical_frames_with carried drawing) one all other.among) other.has in
+    kept_reported (mapped_frames bytes (pairs_framed (canonical_frames_with carried drawing))) number (frame_of number one.pair one.end)
+    (numbered_is_kept (candidates_hold held_frame) bytes drawing.version drawing.objects (objects_place_with carried drawing) number one but.are but.valid.ascending positive
+    (each_holds_or_none carried drawing bytes but.kept but.valid but.small intact) at
+    (one_of_all (λ (one : PairFrame). 0 < one.pair.handle) (canonical_frames_with carried drawing) one positive other.among) holds)
     refl
 
 -- and none for that of a pair at whose place no frame with its handle holds
@@ -131,19 +132,19 @@ fails_is_free bytes pairs number pair are at fails = (free_reported (mapped_fram
         of_candidate one from.0 from.1 its from.2 from.3
 
 -- so the pair of the frame is lost alone
-one_pair_lost : (drawing : Contents) (bytes : List ℕ) (earlier : List PairFrame) (frame : PairFrame) (later : List PairFrame) → IsButOneFrame drawing bytes earlier frame later
-    → lost_pairs (mapped_frames bytes (pairs_framed (canonical_frames drawing))) 0 (pairs_framed (canonical_frames drawing)) ≡ Object frame.pair.handle frame.pair.place ∷ []
-one_pair_lost drawing bytes earlier frame later but =
+one_pair_lost : (carried : Carried) (drawing : Contents) (bytes : List ℕ) (earlier : List PairFrame) (frame : PairFrame) (later : List PairFrame) → IsButOneFrame carried drawing bytes earlier frame later
+    → lost_pairs (mapped_frames bytes (pairs_framed (canonical_frames_with carried drawing))) 0 (pairs_framed (canonical_frames_with carried drawing)) ≡ Object frame.pair.handle frame.pair.place ∷ []
+one_pair_lost carried drawing bytes earlier frame later but =
     ap (lost_pairs kept 0) split ∙ one_lost kept 0 (pairs_framed earlier) frame.pair (pairs_framed later) before free after
   where
     pairs : List Pair
-    pairs = pairs_framed (canonical_frames drawing)
+    pairs = pairs_framed (canonical_frames_with carried drawing)
 
     kept : List Frame
     kept = mapped_frames bytes pairs
 
     split : pairs ≡ pairs_framed earlier ++ frame.pair ∷ pairs_framed later
-    split = pairs_split drawing earlier frame later but.whole
+    split = pairs_split carried drawing earlier frame later but.whole
 
     from_zero : (n : ℕ) → 0 + n ≡ n
     from_zero n = omega arith
@@ -151,7 +152,7 @@ one_pair_lost drawing bytes earlier frame later but =
     named : (number : ℕ) (pair : Pair) (one : PairFrame) → IsOneOf one earlier ⊎ IsOneOf one later → pair ≡ one.pair → IsAt number pair (pairs_framed earlier ++ frame.pair ∷ pairs_framed later)
         → is_kept_pair kept number ≡ true
     named number pair one is same at =
-        other_is_kept drawing bytes earlier frame later number one but is
+        other_is_kept carried drawing bytes earlier frame later number one but is
         (subst (λ (pair : Pair). IsAt number pair pairs) same (subst (IsAt number pair) (sym split) at))
 
     before : AllKept kept 0 (pairs_framed earlier)
@@ -203,69 +204,70 @@ found_not_lost : {A : Type 0} (found : Option A) (one : A) (loss : Loss) → fou
 found_not_lost {A} found one loss is = ap (λ (found : Option A). lost_if (is_none found) loss) is
 
 -- so of such an input the object of the frame is lost alone
-one_object_lost : SectionLaws → (drawing : Contents) (bytes : List ℕ) (earlier : List PairFrame) (frame : PairFrame) (later : List PairFrame) → IsButOneFrame drawing bytes earlier frame later
+one_object_lost : SectionLaws → (carried : Carried) (drawing : Contents) (bytes : List ℕ) (earlier : List PairFrame) (frame : PairFrame) (later : List PairFrame) → IsButOneFrame carried drawing bytes earlier frame later
     → losses_of bytes ≡ Object frame.pair.handle frame.pair.place ∷ []
 unfolding losses_of frames_mapped
-one_object_lost laws drawing bytes earlier frame later but =
+one_object_lost laws carried drawing bytes earlier frame later but =
     pairs_alone (lost_if (is_none (header_of bytes)) Header) (lost_if (is_none (section_found framed.Variables bytes)) Variables) (lost_if (is_none (section_found framed.Classes bytes)) Classes)
     (lost_sections bytes (locators_of (header_of bytes))) (lost_pages bytes 0 (walk_of bytes).pages) (lost_end (walk_of bytes).lost) (lost_pairs (mapped_frames bytes (pairs_read bytes)) 0 (pairs_read bytes))
-    (found_not_lost (header_of bytes) (canonical_header drawing) Header header)
+    (found_not_lost (header_of bytes) (header_with carried drawing) Header header)
     (found_not_lost (section_found framed.Variables bytes) (variables_place drawing) Variables variables)
     (found_not_lost (section_found framed.Classes bytes) (classes_place drawing) Classes classes)
-    (ap (λ (found : Option FileHeader). lost_sections bytes (locators_of found)) header ∙ none_cut bytes drawing.others (others_place drawing) fits)
+    (ap (λ (found : Option FileHeader). lost_sections bytes (locators_of found)) header ∙ none_cut bytes drawing.others (others_place_with carried drawing) fits)
     walk.held (ap lost_end walk.ends)
-    ∙ ap (λ (pairs : List Pair). lost_pairs (mapped_frames bytes pairs) 0 pairs) walk.read ∙ one_pair_lost drawing bytes earlier frame later but
+    ∙ ap (λ (pairs : List Pair). lost_pairs (mapped_frames bytes pairs) 0 pairs) walk.read ∙ one_pair_lost carried drawing bytes earlier frame later but
   where
-    intact : IsPartlyIntact drawing bytes
-    intact = is_partly_intact drawing bytes earlier frame later but
+    intact : IsPartlyIntact carried drawing bytes
+    intact = is_partly_intact carried drawing bytes earlier frame later but
 
-    parts : IntactParts drawing bytes
-    parts = parts_are_intact drawing bytes but.valid but.small intact
+    parts : IntactParts carried drawing bytes
+    parts = parts_are_intact carried drawing bytes but.kept but.valid but.small intact
 
-    header : header_of bytes ≡ Some (canonical_header drawing)
-    header = header_is_found laws.header_complete bytes (canonical_header drawing) parts.begins
+    header : header_of bytes ≡ Some (header_with carried drawing)
+    header = header_is_found laws.header_complete bytes (header_with carried drawing) parts.begins
 
     variables : section_found framed.Variables bytes ≡ Some (variables_place drawing)
     variables =
-        variables_are_found laws bytes (canonical_header drawing) (variables_place drawing) drawing.variables but.are header refl
-        (variables_are_intact drawing bytes but.valid but.small intact but.same.variables)
+        variables_are_found laws bytes (header_with carried drawing) (variables_place drawing) drawing.variables but.are header refl
+        (variables_are_intact carried drawing bytes but.kept but.valid but.small intact but.same.variables)
 
     classes : section_found framed.Classes bytes ≡ Some (classes_place drawing)
     classes =
-        class_section_is_found laws bytes (canonical_header drawing) (classes_place drawing) (class_content drawing.classes) drawing.classes but.are header refl
-        (classes_are_intact drawing bytes but.valid but.small intact but.same.classes) (content_is_classes drawing.classes but.valid.classes)
+        class_section_is_found laws bytes (header_with carried drawing) (classes_place drawing) (class_content drawing.classes) drawing.classes but.are header refl
+        (classes_are_intact carried drawing bytes but.kept but.valid but.small intact but.same.classes) (content_is_classes drawing.classes but.valid.classes)
 
-    walk : IsWholeWalk bytes (pairs_framed (canonical_frames drawing))
-    walk = map_is_walked bytes (canonical_header drawing) (map_place drawing) (pairs_framed (canonical_frames drawing)) header refl parts.mapped
+    walk : IsWholeWalk bytes (pairs_framed (canonical_frames_with carried drawing))
+    walk = map_is_walked bytes (header_with carried drawing) (map_place_with carried drawing) (pairs_framed (canonical_frames_with carried drawing)) header refl parts.mapped
 
-    fits : others_place drawing + length (others_bytes drawing.others) ≤ length bytes
-    fits = omega (arith, but.same.long, (canonical_is_counted drawing but.valid but.small).0)
+    fits : others_place_with carried drawing + length (others_bytes drawing.others) ≤ length bytes
+    fits = omega (arith, but.same.long, (carrying_is_counted carried drawing but.kept but.valid but.small).0)
 
 -- so it costs that object alone
 pub short_damage_costs_one : SectionLaws → ShortDamageIsRefused → DamagedFrameFails → AllElseIsSame → ShortDamageCostsOneObject
 unfolding recovered_damaged
-short_damage_costs_one laws refused fails same drawing bytes earlier frame later is small are whole damaged = record {
+short_damage_costs_one laws refused fails same carried drawing bytes earlier frame later kept is small are whole damaged = record {
   refusal = sym (ap (λ (value : RecoveredValue). value.refusal) answered) ∙ first;
-  losses = sym (ap (λ (value : RecoveredValue). value.losses) answered) ∙ one_object_lost laws drawing bytes earlier frame later but;
-  others = λ other one. of_other other (other_frame drawing bytes earlier frame later but other (of_joined other earlier later one));
+  losses = sym (ap (λ (value : RecoveredValue). value.losses) answered) ∙ one_object_lost laws carried drawing bytes earlier frame later but;
+  others = λ other one. of_other other (other_frame carried drawing bytes earlier frame later but other (of_joined other earlier later one));
 }
   where
-    but : IsButOneFrame drawing bytes earlier frame later
+    but : IsButOneFrame carried drawing bytes earlier frame later
     but = record {
       are = are;
+      kept = kept;
       valid = is;
       small = small;
       whole = whole;
-      same = same drawing bytes earlier frame later is small whole damaged;
-      fails = fails drawing bytes earlier frame later is small are whole damaged;
+      same = same carried drawing bytes earlier frame later kept is small whole damaged;
+      fails = fails carried drawing bytes earlier frame later kept is small are whole damaged;
     }
 
     first : first_fault ALL_LINES bytes ≡ Some (frame_refusal 30 (length earlier) frame.pair.place)
-    first = refused drawing bytes earlier frame later is small are whole damaged
+    first = refused carried drawing bytes earlier frame later kept is small are whole damaged
 
     answered : recovered_damaged bytes ≡ recovered bytes
     answered = recovered_of_damaged bytes (frame_refusal 30 (length earlier) frame.pair.place) first
 
-    of_other : (other : PairFrame) → IsOtherFrame drawing bytes other → IsOneOf other.object (recovered bytes).drawing.objects
+    of_other : (other : PairFrame) → IsOtherFrame carried drawing bytes other → IsOneOf other.object (recovered bytes).drawing.objects
     of_other other known =
-        (intact_objects_are_kept laws drawing bytes other is small are (is_partly_intact drawing bytes earlier frame later but) known.among known.has).1 but.same.classes
+        (intact_objects_are_kept laws carried drawing bytes other kept is small are (is_partly_intact carried drawing bytes earlier frame later but) known.among known.has).1 but.same.classes

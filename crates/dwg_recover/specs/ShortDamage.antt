@@ -1,10 +1,10 @@
--- Canonical files in which one byte, or two neighbouring ones, of one object's frame are changed: that object alone is lost. A rule of this project.
+-- Canonical files, with any preview, in which one byte, or two neighbouring ones, of one object's frame are changed: that object alone is lost. A rule of this project.
 use Rattle.std.proofs.Common.{◌≡◌, ℕ, ◌≤◌, List, [], ◌∷◌, ◌++◌, length, Some}
 use Rattle.dwg_base.specs.Bytes.{AreBytes}
 use Rattle.dwg_base.specs.Devices.{MOST_BYTES}
 use Rattle.dwg_base.specs.Refusal.{Refusal}
-use Rattle.dwg_file.specs.CanonicalFrames.{canonical_frames}
-use Rattle.dwg_file.specs.Canonical.{size_of}
+use Rattle.dwg_file.specs.CanonicalFrames.{canonical_frames_with}
+use Rattle.dwg_file.specs.Canonical.{Carried, IsCarried, size_with}
 use Rattle.dwg_file.specs.Contents.{Contents}
 use Rattle.dwg_file.specs.ShortDamage.{IsDamagedShortly}
 use Rattle.dwg_file.specs.Spelled.{PairFrame}
@@ -24,8 +24,8 @@ pub record CostsOneObject (bytes : List ℕ) (earlier : List PairFrame) (frame :
   pub losses : (recovered bytes).losses ≡ Object frame.pair.handle frame.pair.place ∷ []
   pub others : (other : PairFrame) → IsOneOf other (earlier ++ later) → IsOneOf other.object (recovered bytes).drawing.objects
 
--- an input that differs from the canonical file of a drawing in one byte, or in two neighbouring ones, in the body and the check word of one object's frame costs that object alone
+-- an input that differs from the canonical file of a drawing with a preview in one byte, or in two neighbouring ones, in the body and the check word of one object's frame costs that object alone
 abbrev pub ShortDamageCostsOneObject : Type 0
 ShortDamageCostsOneObject =
-    (drawing : Contents) (bytes : List ℕ) (earlier : List PairFrame) (frame : PairFrame) (later : List PairFrame) → IsValid drawing → size_of drawing ≤ MOST_BYTES → AreBytes bytes
-    → canonical_frames drawing ≡ earlier ++ frame ∷ later → IsDamagedShortly drawing frame bytes → CostsOneObject bytes earlier frame later
+    (carried : Carried) (drawing : Contents) (bytes : List ℕ) (earlier : List PairFrame) (frame : PairFrame) (later : List PairFrame) → IsCarried carried → IsValid drawing → size_with carried drawing ≤ MOST_BYTES → AreBytes bytes
+    → canonical_frames_with carried drawing ≡ earlier ++ frame ∷ later → IsDamagedShortly carried drawing frame bytes → CostsOneObject bytes earlier frame later

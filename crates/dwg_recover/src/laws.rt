@@ -8,7 +8,7 @@ ghost use Rattle.dwg_recover.specs.KeptFrames.{MapKeepsExactly, NoOthersAreKept,
 ghost use Rattle.dwg_recover.specs.OrderOfPlace.{PlacesAreInOrder};
 ghost use Rattle.dwg_recover.specs.RecoveredLaws.{FramesAreKept, PairsAreFew, RecoveredPartsAreRead};
 ghost use Rattle.dwg_recover.specs.Reported.{DamagedIsAnswered, MappedAreReported, RecoveredIsValid, SpelledIsAnswered};
-ghost use Rattle.dwg_recover.specs.ReportedLosses.{LossesAreReported};
+ghost use Rattle.dwg_recover.specs.ReportedLosses.{LossesAreDetermined, LossesAreInOrder, LossesAreReported};
 ghost use Rattle.dwg_recover.specs.Walks.{WalkIsOne, WalkStands};
 
 use dwg_classes::classes_laws;
@@ -74,19 +74,22 @@ pub fn part_laws()
 /// are read as under its classes, and have their handles; and of an input of at most 32 MiB the drawing is valid. Of an input that
 /// spells a drawing it is that drawing, nothing is refused or lost, and the frames that it is spelled with are reported, all as mapped. Of
 /// any other its first refusal is reported; just the frames that are kept for pairs of the map are reported as mapped; and each of what is
-/// lost is reported, and nothing else.
+/// lost is reported, and nothing else. Losses stand in the order of their parts, and those of one part in the order of the locators, of
+/// the pages or of the pairs, one for each of these; so there is one list of them.
 pub fn answer_laws()
     ensures valid { RecoveredIsValid }
     ensures spelled { SpelledIsAnswered }
     ensures damaged { DamagedIsAnswered }
     ensures mapped { MappedAreReported }
     ensures losses { LossesAreReported }
+    ensures losses_ordered { LossesAreInOrder }
+    ensures losses_determined { LossesAreDetermined }
 {
     file_header_laws();
     framed_laws();
 }
 
-/// What is recovered of a damaged canonical file. Let a valid drawing have a canonical file of at most 32 MiB, and an input of the same
+/// What is recovered of a damaged canonical file. Let a valid drawing have a canonical file, with any preview, of at most 32 MiB, and an input of the same
 /// length have that file's header, its pages of the map and the frame of an object; let each other frame be that file's too, or let no
 /// frame with the handle of its pair hold at its place, wherever it would end. Then the frame of the object is kept, as one of the
 /// map's; where the input has the section of the classes too, the object is one of those that are recovered. The parts that this

@@ -477,7 +477,7 @@ pub fn recover<'a, L: Ledger>(
     ensures recovered { IfOk result (λ value. recovered_value value ≡ recovered bytes.now) }
 
     // Check words of spans take few steps, whatever the input and the answer.
-    ensures steps { steps.new ≤ steps.old + 26 * (4 * length bytes.now + 4) }
+    ensures steps { steps.new ≤ steps.old + 15 * (4 * length bytes.now + 4) }
 {
     drawing_laws();
     match read_with_frames(alloc, bytes) {

@@ -3,6 +3,7 @@ use Rattle.dwg_commands.proofs.CertificateLaws.{FormLaws, none_is_certified, sou
 use Rattle.dwg_commands.proofs.CertificateOutcomes.{AcceptanceLaws}
 use Rattle.dwg_commands.proofs.ItemLaws.{no_items_are_reported, appdata_reports_items}
 use Rattle.dwg_commands.proofs.CommandsRead.{readers_are_named}
+use Rattle.dwg_commands.proofs.MakeLaws.{make_writes_drawing}
 use Rattle.dwg_commands.proofs.OutcomeLaws.{DrawingLaws, FileLaws, no_drawing_is_refused, show_prints_drawing, rewrite_writes_drawing, rewrite_reports_size, audit_reports_sound, recover_rewrites_drawing, recover_writes_frames}
 use Rattle.dwg_commands.proofs.SectionLemmas.{PartLaws, sections_prints_header, no_header_is_refused, classes_prints_classes, no_classes_are_refused}
 use Rattle.dwg_commands.proofs.ShortDamage.{short_damage_is_reported}
@@ -53,10 +54,11 @@ returns c =
       no_preview = carry_notes_none laws carrying;
       audit = audit_reports_sound laws c.auditable_laws.ensures.auditable c.finding_laws.ensures.sound;
       recover = recover_rewrites_drawing laws c.answer_laws.ensures.spelled;
-      damaged = recover_writes_frames laws c.answer_laws.ensures.valid c.answer_laws.ensures.damaged;
+      damaged = recover_writes_frames laws files c.answer_laws.ensures.valid c.answer_laws.ensures.damaged;
       short =
-          short_damage_is_reported c.canonical_laws.ensures.counted c.short_damage_laws.ensures.refused c.short_damage_laws.ensures.elsewhere
+          short_damage_is_reported laws forms c.carrying_laws.ensures.counted c.short_damage_laws.ensures.refused c.short_damage_laws.ensures.elsewhere
           c.short_damage_laws-2.ensures.short;
+      make = make_writes_drawing laws files (record { valid = c.make_laws.ensures.valid; within = c.make_laws.ensures.within });
       no_items = no_items_are_reported laws;
       items = appdata_reports_items laws c.app_finding_laws.ensures.none;
       no_certified = none_is_certified laws;

@@ -1,3 +1,4 @@
+use Rattle.dwg_recover.proofs.LossOrder.{losses_in_order, losses_determined}
 use Rattle.dwg_recover.proofs.ReportedLosses.{losses_reported}
 use Rattle.dwg_recover.proofs.ResultLemmas.{damaged_is_answered, mapped_are_reported, recovered_is_valid, spelled_is_answered}
 use Rattle.dwg_recover.proofs.SectionsOfFile.{section_laws}
@@ -19,3 +20,9 @@ returns-clause-mapped c = mapped_are_reported
 
 pub returns-clause-losses : goal.returns-clause-losses
 returns-clause-losses c = losses_reported
+
+pub returns-clause-losses_ordered : goal.returns-clause-losses_ordered
+returns-clause-losses_ordered c = losses_in_order
+
+pub returns-clause-losses_determined : goal.returns-clause-losses_determined
+returns-clause-losses_determined c = losses_determined
