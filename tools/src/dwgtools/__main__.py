@@ -1,21 +1,27 @@
-"""`python -m dwgtools check ..` and `python -m dwgtools recover ..`."""
+"""The entry points, also as `python -m dwgtools check ..` and `python -m dwgtools recover ..`.
+What takes its time to import is imported once an interrupt is quiet."""
 
 from __future__ import annotations
 
+import functools
+import signal
 import sys
 
-from . import cli
 
-TOOLS = {"check": cli.check, "recover": cli.recover}
+def ran(tool: str) -> int:
+    """Runs a tool."""
+    if signal.getsignal(signal.SIGINT) != signal.SIG_IGN:
+        signal.signal(signal.SIGINT, lambda *_: sys.exit(130))
+    from . import cli
+
+    return cli.ran(tool)
 
 
-def main() -> int:
-    """Runs the tool that the first word names."""
-    if len(sys.argv) < 2 or sys.argv[1] not in TOOLS:
-        print(f"usage: python -m dwgtools {'|'.join(TOOLS)} ..", file=sys.stderr)
-        return 2
-    return TOOLS[sys.argv.pop(1)]()
-
+check = functools.partial(ran, "dwg-check")
+recover = functools.partial(ran, "dwg-recover")
 
 if __name__ == "__main__":
-    sys.exit(main())
+    if sys.argv[1:2] not in (["check"], ["recover"]):
+        print("usage: python -m dwgtools check|recover ..", file=sys.stderr)
+        sys.exit(2)
+    sys.exit(ran(f"dwg-{sys.argv.pop(1)}"))

@@ -6,14 +6,14 @@ import contextlib
 import os
 import stat
 import tempfile
-from typing import IO, Iterable, Iterator, Optional
+from typing import IO, Iterator, Optional
 
 from .files import shown
 from .statuses import Exit, ToolError
 
 
-def refuse_output(path: str, is_forced: bool, inputs: Iterable[os.stat_result] = ()) -> None:
-    """Refuses an output that stands already but with --force, that is an input under whatever
+def refuse_output(path: str, is_forced: bool, source: Optional[os.stat_result]) -> None:
+    """Refuses an output that stands already but with --force, that is its source under whatever
     name, and that is no regular file."""
     try:
         told = os.lstat(path)
@@ -23,26 +23,10 @@ def refuse_output(path: str, is_forced: bool, inputs: Iterable[os.stat_result] =
         raise ToolError(f"{shown(path)}: {fault.strerror}") from None
     if not stat.S_ISREG(told.st_mode):
         raise ToolError(f"{shown(path)}: no regular file; name another output", Exit.WORDS)
-    if any(os.path.samestat(told, one) for one in inputs):
+    if source is not None and os.path.samestat(told, source):
         raise ToolError(f"{shown(path)}: the input itself; name another output", Exit.WORDS)
     if not is_forced:
         raise ToolError(f"{shown(path)}: stands already; --force replaces it", Exit.WORDS)
-
-
-@contextlib.contextmanager
-def output(
-    path: str,
-    is_forced: bool = False,
-    inputs: Iterable[os.stat_result] = (),
-    source: Optional[os.stat_result] = None,
-) -> Iterator[IO[bytes]]:
-    """A file that takes the name at the end, when it is whole, and no name where the body raises.
-    It has no more permissions than its source."""
-    refuse_output(path, is_forced, inputs)
-    with begun(os.path.dirname(path) or ".") as file:
-        yield file
-        finish(file, source)
-        place(file.name, path, is_forced, inputs)
 
 
 @contextlib.contextmanager
@@ -63,8 +47,11 @@ def begun(folder: str) -> Iterator[IO[bytes]]:
 def finish(file: IO[bytes], source: Optional[os.stat_result]) -> None:
     """Has a whole file be on the disk, with no more permissions than its source."""
     file.flush()
-    mode = 0o666 & ~_umask()
-    if source is not None:
+    mask = os.umask(0o077)
+    os.umask(mask)
+    mode = 0o666 & ~mask
+    # (a pipe has no permissions that are anybody's wish)
+    if source is not None and stat.S_ISREG(source.st_mode):
         mode &= stat.S_IMODE(source.st_mode)
         if os.fstat(file.fileno()).st_gid != source.st_gid:
             # (another group may do what all others may)
@@ -73,9 +60,9 @@ def finish(file: IO[bytes], source: Optional[os.stat_result]) -> None:
     os.fsync(file.fileno())
 
 
-def place(name: str, path: str, is_forced: bool, inputs: Iterable[os.stat_result] = ()) -> None:
+def place(name: str, path: str, is_forced: bool, source: Optional[os.stat_result]) -> None:
     """Gives a whole file its name."""
-    refuse_output(path, is_forced, inputs)
+    refuse_output(path, is_forced, source)
     try:
         if is_forced:
             os.replace(name, path)
@@ -83,9 +70,3 @@ def place(name: str, path: str, is_forced: bool, inputs: Iterable[os.stat_result
             os.link(name, path)
     except OSError as fault:
         raise ToolError(f"{shown(path)}: {fault.strerror}") from None
-
-
-def _umask() -> int:
-    mask = os.umask(0o077)
-    os.umask(mask)
-    return mask

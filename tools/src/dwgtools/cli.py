@@ -1,4 +1,4 @@
-"""The entry points of the tools: their streams and signals, their words, their statuses."""
+"""How a tool runs: its streams and signals, its words, its statuses."""
 
 from __future__ import annotations
 
@@ -8,23 +8,21 @@ import importlib
 import os
 import signal
 import sys
-from typing import Any, Callable, Dict, List, NoReturn
+from typing import Any, Iterable, List, NoReturn, Optional, TextIO
 
 from . import __version__
 from .files import one_line, shown
+from .pool import processors
 from .statuses import Exit, ToolError
 
-# The subcommands of dwg-check, each a module with DESCRIPTION, add_words(parser) and
-# run(options), which gives the status. What stands first and is none of them is a file.
-CHECK = "dwgtools.check.command"
-SUBCOMMANDS = {
-    "keep": "dwgtools.archive.keep",
-    "verify": "dwgtools.archive.verify",
-    "forget": "dwgtools.archive.forget",
-    "export": "dwgtools.archive.export",
-    "report": "dwgtools.check.report",
-}
-RECOVER = "dwgtools.recover.command"
+# The tools and their subcommands, each a module with DESCRIPTION, add_words(parser) and
+# run(options), which gives the status. What stands first and is no subcommand is a file.
+COMMANDS = {
+    "dwg-check": "check.command", "dwg-check report": "check.report",
+    "dwg-check keep": "archive.keep", "dwg-check verify": "archive.verify",
+    "dwg-check forget": "archive.forget", "dwg-check export": "archive.export",
+    "dwg-recover": "recover.command",
+}  # fmt: skip
 
 
 class Parser(argparse.ArgumentParser):
@@ -32,39 +30,35 @@ class Parser(argparse.ArgumentParser):
 
     def __init__(self, name: str, module: Any) -> None:
         super().__init__(
-            prog=name,
-            description=module.DESCRIPTION,
-            formatter_class=argparse.RawDescriptionHelpFormatter,
-            allow_abbrev=False,
-        )
-        tool = name.split()[0]
-        self.add_argument("--version", action="version", version=f"{tool} {__version__}")
+            prog=name, description=module.DESCRIPTION,
+            formatter_class=argparse.RawDescriptionHelpFormatter, allow_abbrev=False,
+        )  # fmt: skip
+        version = f"{name.split()[0]} {__version__}"
+        self.add_argument("--version", action="version", version=version)
+        program = "the program dwg (else that of DWG, of the checkout, or on the PATH)"
+        self.add_argument("--program", metavar="PATH", help=program)
         module.add_words(self)
+
+    def options(self, words: List[str]) -> argparse.Namespace:
+        """What words mean, wherever options stand before a `--`. Of an option that there isn't
+        the value may be taken for a file: it is told alone."""
+        parse = self.parse_known_args if "--" in words else self.parse_known_intermixed_args
+        options, unknown = parse(words)
+        if unknown:
+            told = [word for word in unknown if word.startswith("-")] or unknown
+            self.error(f"unrecognized arguments: {' '.join(told)}")
+        return options
 
     def error(self, message: str) -> NoReturn:
         raise ToolError(f"{message}; see {self.prog} --help", Exit.WORDS)
 
 
-def add_program(parser: argparse.ArgumentParser) -> None:
-    """Adds the word for the program."""
-    parser.add_argument(
-        "--program",
-        metavar="PATH",
-        help="the program dwg (else the one that DWG names, that of the checkout, or on the PATH)",
-    )
-
-
 def add_jobs(parser: argparse.ArgumentParser) -> None:
     """Adds the word for how many files are worked on at once."""
-    from .pool import processors
-
     parser.add_argument(
-        "--jobs",
-        type=_jobs,
-        metavar="N",
-        default=processors(),
+        "--jobs", type=_jobs, metavar="N", default=processors(),
         help="work on N files at a time (else as many as there are processors)",
-    )
+    )  # fmt: skip
 
 
 def _jobs(word: str) -> int:
@@ -73,26 +67,15 @@ def _jobs(word: str) -> int:
     return int(word)
 
 
-def check() -> int:
-    """dwg-check."""
-    return _ran("dwg-check", CHECK, SUBCOMMANDS)
-
-
-def recover() -> int:
-    """dwg-recover."""
-    return _ran("dwg-recover", RECOVER, {})
-
-
-def _ran(tool: str, module: str, subcommands: Dict[str, str]) -> int:
+def ran(tool: str) -> int:
     """Runs a tool; what it says of a failure is a message of one line."""
-    words = sys.argv[1:]
-    name = tool
-    if words and words[0] in subcommands:
-        name, module = f"{tool} {words[0]}", subcommands[words.pop(0)]
+    name, words = tool, sys.argv[1:]
+    if words and f"{tool} {words[0]}" in COMMANDS:
+        name = f"{tool} {words.pop(0)}"
     try:
         _open_streams()
         _take_signals()
-        return _flushed(lambda: _run(name, module, words))
+        return _run(name, words)
     except SystemExit as end:
         # (a signal waits for nobody who reads)
         _drop_output()
@@ -101,38 +84,28 @@ def _ran(tool: str, module: str, subcommands: Dict[str, str]) -> int:
         _drop_output()
         return Exit.CLOSED_PIPE
     except ToolError as fault:
-        tell(tool, str(fault))
+        tell(str(fault), tool)
         return fault.status
     except MemoryError:
-        tell(tool, "no memory")
+        tell("no memory", tool)
     except OSError as fault:
         where = f"{shown(fault.filename)}: " if isinstance(fault.filename, str) else ""
-        tell(tool, f"{where}{fault.strerror or fault}")
+        tell(f"{where}{fault.strerror or fault}", tool)
     except Exception as fault:  # pylint: disable=broad-except
-        tell(tool, f"failure of the tool itself: {type(fault).__name__}: {fault}")
+        tell(f"failure of the tool itself: {type(fault).__name__}: {fault}", tool)
     _drop_output()
     return Exit.FAILURE
 
 
-def _run(name: str, module: str, words: List[str]) -> int:
-    loaded = importlib.import_module(module)
+def _run(name: str, words: List[str]) -> int:
+    command = importlib.import_module(f".{COMMANDS[name]}", __package__)
     try:
-        options = Parser(name, loaded).parse_args(words)
+        options = Parser(name, command).options(words)
     except SystemExit:
         # (the help, or the version, is said)
+        printed([])
         return Exit.WELL
-    return int(loaded.run(options))
-
-
-def _flushed(body: Callable[[], int]) -> int:
-    status = body()
-    try:
-        sys.stdout.flush()
-    except BrokenPipeError:
-        raise
-    except OSError as fault:
-        raise ToolError(f"standard output: {fault.strerror}") from None
-    return status
+    return int(command.run(options))
 
 
 def _drop_output() -> None:
@@ -169,7 +142,7 @@ def _take_signals() -> None:
     signal.signal(signal.SIGCHLD, signal.SIG_DFL)
 
 
-def tell(tool: str, message: str) -> None:
+def tell(message: str, tool: str = "dwg-check") -> None:
     """Tells something on standard error, on one line (backslashes stay, since names are escaped
     already); where that is gone, nothing else ends."""
     said = "\\".join(map(one_line, message.split("\\")))
@@ -177,17 +150,14 @@ def tell(tool: str, message: str) -> None:
         print(f"{tool}: {said}", file=sys.stderr, flush=True)
 
 
-def tell_check(message: str) -> None:
-    """Tells something of dwg-check."""
-    tell("dwg-check", message)
-
-
-def printed(lines: List[bytes]) -> None:
-    """Prints lines at once."""
+def printed(pieces: Iterable[bytes], stream: Optional[TextIO] = None, more: str = "") -> None:
+    """Prints bytes at once, on standard output or another stream; a fault says more."""
+    stream = stream or sys.stdout
     try:
-        sys.stdout.buffer.write(b"".join(lines))
-        sys.stdout.buffer.flush()
+        stream.buffer.writelines(pieces)
+        stream.flush()
     except BrokenPipeError:
         raise
     except OSError as fault:
-        raise ToolError(f"standard output: {fault.strerror}") from None
+        name = "error" if stream is sys.stderr else "output"
+        raise ToolError(f"standard {name}: {fault.strerror}{more}") from None

@@ -73,9 +73,10 @@ class Walk:
     left_out: Tuple[str, ...] = ()
     is_followed: bool = False
 
-    def takes(self, name: str) -> bool:
-        """Whether a file of this name is taken."""
-        return self.is_all or name.lower().endswith(self.endings)
+    def takes(self, entry: "os.DirEntry[str]") -> bool:
+        """Whether an entry that is no folder is taken."""
+        is_called = self.is_all or entry.name.lower().endswith(self.endings)
+        return is_called and (self.is_followed or not entry.is_symlink())
 
     def leaves_out(self, path: str, name: str) -> bool:
         """Whether an entry is left out, by its name or by its path in the folder of the words."""
@@ -84,28 +85,23 @@ class Walk:
 
 def add_words(parser: argparse.ArgumentParser, is_followed: bool = True) -> None:
     """Adds the words by which files of folders are taken."""
+    parser.set_defaults(follow=False)
     which = parser.add_mutually_exclusive_group()
     which.add_argument("--all", action="store_true", help="of folders take every file")
     which.add_argument(
-        "--ext",
-        type=_endings,
-        metavar="EXT[,EXT..]",
+        "--ext", type=_endings, metavar="EXT[,EXT..]",
         help="of folders take files with these endings (else dwg)",
-    )
+    )  # fmt: skip
     parser.add_argument(
-        "--exclude",
-        type=lambda word: word.rstrip("/"),
-        metavar="PATTERN",
-        action="append",
+        "--exclude", type=lambda word: word.rstrip("/"), metavar="PATTERN", action="append",
         default=[],
         help="of folders leave out names or paths in them like PATTERN; may be given again",
-    )
+    )  # fmt: skip
     if is_followed:
         parser.add_argument(
-            "--follow",
-            action="store_true",
+            "--follow", action="store_true",
             help="of folders follow symbolic links, each folder once",
-        )
+        )  # fmt: skip
 
 
 def _endings(word: str) -> Tuple[str, ...]:
@@ -117,12 +113,7 @@ def _endings(word: str) -> Tuple[str, ...]:
 
 def walk_of(options: argparse.Namespace) -> Walk:
     """Which files of folders the words take."""
-    return Walk(
-        options.ext or DRAWINGS,
-        options.all,
-        tuple(options.exclude),
-        getattr(options, "follow", False),
-    )
+    return Walk(options.ext or DRAWINGS, options.all, tuple(options.exclude), options.follow)
 
 
 def walked(folder: str, walk: Walk) -> Iterator[Named]:
@@ -150,7 +141,7 @@ def walked(folder: str, walk: Walk) -> Iterator[Named]:
             below = os.path.join(within, entry.name)
             if not walk.leaves_out(below, entry.name):
                 is_one = _is_folder(entry, walk)
-                if is_one or _is_taken(entry, walk):
+                if is_one or walk.takes(entry):
                     left.append((entry.path, below, is_one))
 
 
@@ -160,10 +151,6 @@ def _is_folder(entry: "os.DirEntry[str]", walk: Walk) -> bool:
         return entry.is_dir(follow_symlinks=walk.is_followed)
     except OSError:
         return True
-
-
-def _is_taken(entry: "os.DirEntry[str]", walk: Walk) -> bool:
-    return walk.takes(entry.name) and (walk.is_followed or not entry.is_symlink())
 
 
 def named(words: Sequence[str], walk: Walk) -> Iterator[Named]:

@@ -1,17 +1,15 @@
-"""Work on many things by several processes, in order, with how far it is on a terminal."""
+"""Work on many things by several processes, in order."""
 
 from __future__ import annotations
 
 import collections
-import contextlib
 import itertools
 import os
 import signal
-import sys
 import threading
 import time
-from typing import TYPE_CHECKING, Any, Callable, Deque, Iterable, Iterator, List, NoReturn
-from typing import Tuple, TypeVar
+from typing import TYPE_CHECKING, Any, Callable, Deque, Generator, Iterable, Iterator, List
+from typing import NoReturn, Tuple, TypeVar
 
 if TYPE_CHECKING:
     from concurrent.futures import Future
@@ -22,6 +20,9 @@ Result = TypeVar("Result")
 # How many things a process gets at once where each takes less than so many seconds, and for how
 # many processes' turns things are taken ahead.
 AT_ONCE, SHORT, AHEAD = 16, 0.02, 4
+# How many seconds lie between the times that a process is told to end, and how many times there
+# are until it is killed.
+EVERY, PATIENT = 0.05, 60
 
 
 def processors() -> int:
@@ -33,34 +34,18 @@ def processors() -> int:
 
 
 def in_order(
-    work: Callable[[Item], Result],
-    items: Iterable[Item],
-    jobs: int,
-    lost: Callable[[Item], Result],
-) -> Iterator[Result]:
+    work: Callable[[Item], Result], items: Iterable[Item], jobs: int, lost: Callable[[Item], Result]
+) -> Generator[Result, None, None]:
     """What work gives for each item, in their order, by so many processes. `lost` gives what
     stands for an item by which a process ended, as where there was no memory."""
     left = iter(items)
     first = list(itertools.islice(left, 2))
     left = itertools.chain(first, left)
     if jobs < 2 or len(first) < 2:
-        return map(work, left)
-    return _by_processes(work, left, jobs, lost)
-
-
-def _by_processes(
-    work: Callable[[Item], Result],
-    items: Iterator[Item],
-    jobs: int,
-    lost: Callable[[Item], Result],
-) -> Iterator[Result]:
-    pool = _Pool(jobs, work)
-    try:
-        yield from _through(pool, items, lost)
-    except BaseException:
-        pool.end()
-        raise
-    pool.close()
+        yield from map(work, left)
+        return
+    with _Pool(jobs, work) as pool:
+        yield from _through(pool, left, lost)
 
 
 def _through(
@@ -82,23 +67,21 @@ def _through(
         try:
             results, seconds = future.result()
         except BrokenProcessPool:
-            pool.begin_anew()
             todo = [some, *(more for more, _ in ahead)]
             ahead.clear()
-            yield from _one_by_one(list(itertools.chain(*todo)), lost, pool)
+            yield from _one_by_one(itertools.chain(*todo), lost, pool)
             continue
         count = AT_ONCE if seconds < SHORT * len(results) else 1
         yield from results
 
 
 def _one_by_one(
-    items: List[Item],
-    lost: Callable[[Item], Result],
-    pool: "_Pool",
+    items: Iterable[Item], lost: Callable[[Item], Result], pool: "_Pool"
 ) -> Iterator[Result]:
-    """What work gives for each of few items, of which one ends a process."""
+    """What work gives for each of few items, of which one ended a process."""
     from concurrent.futures.process import BrokenProcessPool
 
+    pool.begin_anew()
     for item in items:
         try:
             yield pool.submit([item]).result()[0][0]
@@ -144,9 +127,15 @@ class _Pool:
         """Has a process work on some items."""
         return self._pool.submit(_worked, items)
 
-    def close(self) -> None:
-        """Ends the processes, which have nothing left to do."""
-        self._pool.shutdown()
+    def __enter__(self) -> "_Pool":
+        return self
+
+    def __exit__(self, kind: object, *_: object) -> None:
+        """Ends the processes, where nothing went wrong once they have done all."""
+        if kind:
+            self.end()
+        else:
+            self._pool.shutdown()
 
     def end(self) -> None:
         """Ends the processes with what they run. One may begin to wait just as it is told so, and
@@ -160,11 +149,6 @@ class _Pool:
                 one.kill() if times > PATIENT else one.terminate()
             time.sleep(EVERY)
         self._pool.shutdown(wait=False)
-
-
-# How many seconds lie between the times that a process is told to end, and how many times there
-# are until it is killed.
-EVERY, PATIENT = 0.05, 60
 
 
 def _begin(parent: int, work: Callable[[Any], Any]) -> None:
@@ -185,33 +169,3 @@ def _begin(parent: int, work: Callable[[Any], Any]) -> None:
 def _told_to_end(number: int, _: object) -> NoReturn:
     signal.signal(number, signal.SIG_IGN)
     raise SystemExit(1)
-
-
-class Progress:
-    """A line on the terminal that says how far the run is, once it takes long."""
-
-    PATIENCE, BETWEEN = 2.0, 0.2
-
-    def __init__(self, is_shown: bool) -> None:
-        self._is_shown = is_shown and sys.stderr is not None and sys.stderr.isatty()
-        self._begin = self._last = time.monotonic()
-        self._done, self._is_drawn = 0, False
-
-    def count(self) -> None:
-        """Counts one thing that is done."""
-        self._done += 1
-        now = time.monotonic()
-        if self._is_shown and now - self._begin > self.PATIENCE and now - self._last > self.BETWEEN:
-            self._last, self._is_drawn = now, True
-            self._draw(f"\r\x1b[K{self._done} done, {self._done / (now - self._begin):.0f}/s")
-
-    def clear(self) -> None:
-        """Takes the line away, so that another can be printed."""
-        if self._is_drawn:
-            self._is_drawn = False
-            self._draw("\r\x1b[K")
-
-    @staticmethod
-    def _draw(said: str) -> None:
-        with contextlib.suppress(OSError):
-            print(said, end="", file=sys.stderr, flush=True)

@@ -11,7 +11,7 @@ import shutil
 import signal
 import subprocess
 from dataclasses import dataclass
-from typing import IO, Any, Iterator, NoReturn, Optional, Sequence, Union
+from typing import IO, Any, Dict, Iterator, NoReturn, Optional, Sequence, Union
 
 from .statuses import Status, ToolError
 
@@ -42,6 +42,13 @@ class ProgramFailed(ToolError):
         self.why, self.is_lasting = why, is_lasting
 
 
+def failed_with(status: int, command: str) -> ProgramFailed:
+    """Why a command has no answer, by a status that says nothing of what it read."""
+    known: Dict[int, str] = {Status.WRITE_FAULT: "the output can't be written"}
+    known[Status.NO_MEMORY] = "no memory"
+    return ProgramFailed(known.get(status, f"status {status} for `{command}`"))
+
+
 def find_program(given: Optional[str] = None) -> str:
     """The program: the one given, else that of DWG, else of the checkout, else of the PATH."""
     for path, origin in ((given, "--program"), (os.environ.get("DWG"), "DWG")):
@@ -63,14 +70,11 @@ def _is_command(path: str) -> bool:
 class Program:
     """Runs the program. It may be sent to another process."""
 
-    def __init__(self, path: str) -> None:
-        self.path = path
-        self._environment = dict(os.environb)
-
-    def prepare(self) -> None:
-        """Runs the program once for nothing: the launcher of a checkout looks once whether the
-        program is built, and not at each run."""
-        self._environment[b"DWG_PROVED_ONLY"] = b"1"
+    def __init__(self, given: Optional[str] = None) -> None:
+        """Finds the program, and runs it once for nothing: the launcher of a checkout looks once
+        whether the program is built, and not at each run."""
+        self.path = find_program(given)
+        self._environment = {**os.environb, b"DWG_PROVED_ONLY": b"1"}
         answer = self.run(["drill", "1"])
         if answer.status != Status.DONE:
             said = answer.notes.decode("utf-8", "replace").strip()
@@ -85,12 +89,9 @@ class Program:
             return hashlib.sha256(file.read()).hexdigest()
 
     def run(
-        self,
-        words: Sequence[str],
-        source: Source = None,
-        output: Optional[IO[bytes]] = None,
+        self, words: Sequence[str], source: Source = None, output: Optional[IO[bytes]] = None,
         notes: Optional[IO[bytes]] = None,
-    ) -> Answer:
+    ) -> Answer:  # fmt: skip
         """Runs the program to its end. Output and notes go to the files that are given; else they
         are held (of notes the first 64 MiB), and more output is ProgramFailed."""
         with self._started(words, source, output or subprocess.PIPE, notes) as run:
@@ -121,23 +122,26 @@ class Program:
                 stdin = source
             if source is not None:
                 os.lseek(stdin.fileno(), 0, os.SEEK_SET)
+            # (a signal between the begin of the program and its callback would leave it running)
+            before = signal.pthread_sigmask(signal.SIG_BLOCK, {signal.SIGINT, signal.SIGTERM})
             try:
                 ran = subprocess.Popen(
-                    ["dwg", *words],
-                    executable=self.path,
-                    stdin=stdin,
-                    stdout=output,
-                    stderr=said,
-                    close_fds=False,
-                    env=self._environment,
-                )
+                    ["dwg", *words], executable=self.path, env=self._environment,
+                    stdin=stdin, stdout=output, stderr=said, close_fds=False,
+                )  # fmt: skip
+                end.enter_context(ran)
+                end.callback(ran.kill)
             except OSError as fault:
                 raise ProgramFailed(str(fault.strerror)) from None
-            end.enter_context(ran)
-            end.callback(ran.kill)
+            finally:
+                signal.pthread_sigmask(signal.SIG_SETMASK, before)
             _bound(ran.pid, MOST_HELD if notes is None else MOST_WRITTEN)
-            end.enter_context(_clock(words[0]))
-            yield Run(words[0], ran, said)
+            run = Run(words[0], ran, said)
+            # (the timer goes off again where a call begins to wait just as it does)
+            signal.signal(signal.SIGALRM, run.end)
+            signal.setitimer(signal.ITIMER_REAL, MOST_TAKEN, 1)
+            end.callback(signal.setitimer, signal.ITIMER_REAL, 0)
+            yield run
 
 
 class Run:
@@ -154,6 +158,10 @@ class Run:
             if not line.endswith(b"\n") or left < 0:
                 raise self.floods()
             yield line
+
+    def end(self, *_: object) -> NoReturn:
+        """Ends a run that takes too long."""
+        raise ProgramFailed(f"`{self._command}` has no answer in {MOST_TAKEN} seconds")
 
     def floods(self) -> ProgramFailed:
         """Why a run is ended that writes on and on."""
@@ -174,6 +182,11 @@ class Run:
             raise ProgramFailed(f"`{self._command}` was killed by signal {-status}")
         return status
 
+    def refuse_unread(self) -> None:
+        """Raises where the program doesn't read as a drawing what it read so before."""
+        if self.status() not in (Status.DONE, Status.FOUND):
+            raise failed_with(self.status(), self._command)
+
 
 def _file() -> IO[bytes]:
     """A file without a name, in memory where the system has such files."""
@@ -185,23 +198,6 @@ def _file() -> IO[bytes]:
         return tempfile.TemporaryFile(buffering=0)
     except OSError as fault:
         raise ProgramFailed(f"no temporary file: {fault.strerror}") from None
-
-
-@contextlib.contextmanager
-def _clock(command: str) -> Iterator[None]:
-    """Ends a run that takes too long. (The timer goes off again where a call begins to wait just
-    as it does.)"""
-
-    def end(*_: object) -> NoReturn:
-        raise ProgramFailed(f"`{command}` has no answer in {MOST_TAKEN} seconds")
-
-    before = signal.signal(signal.SIGALRM, end)
-    signal.setitimer(signal.ITIMER_REAL, MOST_TAKEN, 1)
-    try:
-        yield
-    finally:
-        signal.setitimer(signal.ITIMER_REAL, 0)
-        signal.signal(signal.SIGALRM, before)
 
 
 def _bound(number: int, most_written: int) -> None:

@@ -29,7 +29,6 @@ class Exit(enum.IntEnum):
     NOTHING_FOUND = 66
     NOT_AS_KEPT = 68
     FAILURE = 70
-    INTERRUPTED = 130
     CLOSED_PIPE = 141
 
 

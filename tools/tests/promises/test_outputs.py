@@ -76,6 +76,15 @@ class Outputs(Commands):
             self.refused("dwg-check", "forget", store, "plan.dwg")
             self.refused("dwg-check", "export", store)
 
+    def test_what_is_empty_or_leads_nowhere_is_no_store(self) -> None:
+        """Nor is what is called as a drawing, which has nothing of one yet."""
+        self.drawing("archive/plan.dwg")
+        for name in ("empty", "empty.dwg", "empty.DWG"):
+            self.file(name, b"")
+        (self.folder / "led").symlink_to("nowhere")
+        for store in ("empty", "empty.dwg", "empty.DWG", "led", "none.dwg"):
+            self.assertIn(store, self.refused("dwg-check", "keep", store, "archive"))
+
     def test_what_stands_is_replaced_with_force_alone(self) -> None:
         expected = answer("recover", given=self.damaged)
         out, notes = self.folder / "out.dwg", self.folder / "out.dwg.notes"
@@ -166,6 +175,13 @@ class Outputs(Commands):
                     out.write_bytes(old)
                 self.killed(chance.uniform(0.03, 0.3), "dwg-recover", "--force", self.source, out)
                 self.assertIn(out.read_bytes() if out.exists() else None, (whole, old))
+
+    def test_interrupted_while_it_begins_it_says_nothing(self) -> None:
+        """Here as Python imports its own module `argparse`."""
+        (self.top / "argparse.py").write_text("import os\nos.kill(os.getpid(), 2)\nprint(3)\n")
+        self.variables["PYTHONPATH"] = str(self.top)
+        for ran in (self.check("."), self.recover("in.dwg", "out.dwg")):
+            self.assertEqual((ran.status, ran.out, ran.said), (INTERRUPTED, b"", ""))
 
     def test_interrupted_it_leaves_nothing(self) -> None:
         waiting = self.program('echo >"$0.begun"', "sleep 30")

@@ -87,6 +87,16 @@ class Recovered(Commands):
             self.recover("--tree", "tree", "plans")
             self.assertEqual([*(self.folder / "tree").rglob("in.dwg*")], [])
 
+    def test_what_is_no_drawing_is_nothing_to_recover(self) -> None:
+        """The status of a tree has 3 where a drawing is damaged and nothing of it is recovered."""
+        for name, data in (("empty", b""), ("text", b"A text.\n"), ("newer", b"AC1032" + bytes(99))):
+            self.file(f"plans/{name}.dwg", data)
+        for _ in range(2):
+            ran = self.recover("--tree", "tree", "plans")
+            self.assertEqual((ran.status, len(ran.table)), (UNSOUND, 4))
+        self.file("plans/nothing.dwg", b"AC1015" + bytes(range(200)))
+        self.assertEqual(self.recover("--tree", "tree", "plans").status, DAMAGED)
+
     def test_it_has_no_more_permissions_than_its_source(self) -> None:
         before = os.umask(0o022)
         self.addCleanup(os.umask, before)

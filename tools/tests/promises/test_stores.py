@@ -14,7 +14,7 @@ from pathlib import Path
 from typing import Any, Dict, Iterator
 
 from commands import (
-    FAILURE, INTERRUPTED, PATIENCE, REFUSED, SOUND, UNSOUND, Commands, Ran, answer, end,
+    DAMAGED, FAILURE, INTERRUPTED, PATIENCE, REFUSED, SOUND, UNSOUND, Commands, Ran, answer, end,
 )  # fmt: skip
 from drawings import renamed, spoiled
 
@@ -130,6 +130,11 @@ class Stores(Counted):
         self.exported = self.check("export", "store").out
         self.assertEqual(self.exported.count(b"\n"), 7)
 
+    def test_that_it_is_written_is_said_last(self) -> None:
+        """Its status is that of the verdicts, which says nothing of the store."""
+        last = "dwg-check: 7 files: 6 sound, 1 damaged; store is written\n"
+        self.assertEqual((self.kept.status, self.kept.said), (DAMAGED, last))
+
     def test_what_is_no_store_of_ours_is_told(self) -> None:
         own = self.store.read_bytes()
         for name, data in (
@@ -154,6 +159,20 @@ class Stores(Counted):
         """A program that answers a command when there is a file `go`."""
         wait = f'while [ ! -e "{self.top}/go" ]; do sleep 0.1; done'
         return self.program(f'[ "$1" != {command} ] || {{ echo >>"{self.count}"; {wait}; }}')
+
+    def test_nothing_is_replaced_where_the_store_keeps_its_journal(self) -> None:
+        for side in ("-journal", "-wal", "-shm"):
+            for store in (self.store, self.folder / "another"):
+                beside = self.file(f"{store}{side}", plan(3))
+                for words in (["keep", store, "archive"], ["verify", "--take", "new", store, "."]):
+                    self.assertIn(self.check(*words).status, REFUSED)
+                    self.assertEqual(beside.read_bytes(), plan(3))
+                os.remove(beside)
+        os.makedirs(self.folder / "out", exist_ok=True)
+        os.link(self.drawing("archive/0.dwg"), self.folder / "out/.dwg-recover.db-journal")
+        before = (self.folder / "archive/0.dwg").read_bytes()
+        self.assertIn(self.recover("--tree", "out", "archive").status, REFUSED)
+        self.assertEqual((self.folder / "archive/0.dwg").read_bytes(), before)
 
     def test_a_store_that_another_run_has_is_told(self) -> None:
         words = ["keep", "store", "archive", "--program", self.waiting("audit")]

@@ -10,7 +10,9 @@ import subprocess
 import unicodedata
 from typing import Dict, Tuple
 
-from commands import DAMAGED, DATA, SAMPLES, SOUND, UNSOUND, USAGE, Commands, answer
+from commands import (
+    DAMAGED, DATA, NOTHING_FOUND, PROGRAM, SAMPLES, SOUND, UNSOUND, USAGE, Commands, answer,
+)  # fmt: skip
 from drawings import flipped, map_of, refusal, spoiled
 
 COLUMNS = "path\tverdict\tdetail\tfindings\tbytes\ttrailing\tversion"
@@ -101,6 +103,24 @@ class Verdicts(Commands):
         self.assertEqual(self.recover(damaged, "b.dwg").status, UNSOUND)
         self.assertEqual(self.recover(other, "c.dwg").status, DAMAGED)
         self.assertEqual(self.recover(other).status, USAGE)
+
+    def test_options_stand_anywhere_after_a_command(self) -> None:
+        """Those of all commands; of one that none has, that alone is told."""
+        self.drawing("a/a.dwg")
+        version = self.check("--version")
+        for command, *words in (
+            ("keep", "store", "a"), ("verify", "store", "a"), ("export", "store"),
+            ("report", "a", "a"), ("forget", "store", "a.dwg", "a.dwg"),
+        ):  # fmt: skip
+            for at in (0, len(words) - 1):
+                ran = self.check(command, *words[:at], "--program", PROGRAM, *words[at:])
+                self.assertIn(ran.status, (SOUND, NOTHING_FOUND), ran)
+            self.assertEqual(self.check(command, "--version"), version)
+            ran = self.check(command, "--what", *words)
+            said = f"unrecognized arguments: --what; see dwg-check {command} --help\n"
+            self.assertEqual((ran.status, ran.said), (USAGE, f"dwg-check: {said}"))
+        self.drawing("--all")
+        self.assertEqual(self.check("--quiet", "--", "--all").verdicts, {"--all": "sound"})
 
     def test_a_folder_that_is_called_as_a_word_is(self) -> None:
         for name in ("keep", "verify", "forget", "export", "report"):

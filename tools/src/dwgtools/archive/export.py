@@ -11,8 +11,8 @@ from .store import File, Store
 DESCRIPTION = """\
 Prints the SHA-256 and the path in the folder of each file that STORE remembers, as sha256sum
 does: `cd FOLDER && sha256sum -c` takes it, and a bag of BagIt as its manifest.
-Status: 0 printed; 66 nothing is remembered; 68 damaged rows are left out; 2 wrong words;
-70 failure, damaged store."""
+Status: 0 printed; 66 nothing is remembered; 68 damaged rows are left out; 2 wrong words, no store;
+70 failure, or the store is no use."""
 
 
 def add_words(parser: argparse.ArgumentParser) -> None:
@@ -22,7 +22,7 @@ def add_words(parser: argparse.ArgumentParser) -> None:
 
 def run(options: argparse.Namespace) -> int:
     """Prints the sums."""
-    with Store(options.store, cli.tell_check, is_written=False) as store:
+    with Store(options.store, cli.tell, is_written=False) as store:
         kept = store.files()
         cli.printed([line(file) for file in kept])
         if store.damaged:

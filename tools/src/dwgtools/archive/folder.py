@@ -39,19 +39,17 @@ class Folder:
     ) -> Iterator[Tuple[files.Named, "os.stat_result"]]:
         """The files that are taken, each with what it is, and folders that can't be read."""
         own = os.stat(store)
-        journals = {os.path.realpath(store) + end for end in ("-journal", "-wal", "-shm")}
-        names = {os.path.basename(name) for name in journals}
+        ends = ("-journal", "-wal", "-shm")
+        journals = {os.path.realpath(store) + end for end in ends}
         for one in files.walked(self.path, walk):
             try:
                 told = os.lstat(one.path)
             except OSError as fault:
                 yield files.Named(one.path, one.fault or str(fault.strerror)), own
                 continue
-            if os.path.samestat(told, own):
-                continue
-            if os.path.basename(one.path) in names and os.path.realpath(one.path) in journals:
-                continue
-            yield one, told
+            is_journal = one.path.endswith(ends) and os.path.realpath(one.path) in journals
+            if not is_journal and not os.path.samestat(told, own):
+                yield one, told
 
     def state(self, within: bytes) -> str:
         """Why a file of the folder can't be read; nothing where it can, `gone` where it is."""

@@ -13,7 +13,7 @@ from .store import Store
 DESCRIPTION = """\
 Has STORE remember files no more. A NAME is a path in the folder, as verify prints it; that of a
 folder stands for all files in it.
-Status: 0 forgotten; 66 some NAME isn't remembered; 2 wrong words; 70 failure, damaged store."""
+Status: 0 forgotten; 66 some NAME isn't remembered; 2 wrong words, no store; 70 failure."""
 
 
 def add_words(parser: argparse.ArgumentParser) -> None:
@@ -25,7 +25,7 @@ def add_words(parser: argparse.ArgumentParser) -> None:
 def run(options: argparse.Namespace) -> int:
     """Forgets files."""
     names = {os.fsencode(os.path.normpath(name)): 0 for name in options.names}
-    with Store(options.store, cli.tell_check, must_exist=True) as store:
+    with Store(options.store, cli.tell) as store:
         for file in store.files():
             path = file.path
             while path and path not in names:
@@ -35,5 +35,5 @@ def run(options: argparse.Namespace) -> int:
                 store.forget(file)
     unknown = [name for name, count in names.items() if not count]
     for name in unknown:
-        cli.tell_check(f"{shown(os.fsdecode(name))}: isn't remembered in {shown(options.store)}")
+        cli.tell(f"{shown(os.fsdecode(name))}: isn't remembered in {shown(options.store)}")
     return Exit.NOTHING_FOUND if unknown else Exit.WELL

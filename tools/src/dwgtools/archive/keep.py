@@ -4,6 +4,7 @@ from __future__ import annotations
 
 import argparse
 import collections
+import dataclasses
 import json
 import os
 from typing import Any, Dict, Iterator, List, Optional, Tuple
@@ -14,7 +15,7 @@ from ..check.header import Picture, Preview
 from ..check.verdict import RULES, Checker
 from ..files import is_called_drawing, shown
 from ..notes import Refusal
-from ..program import Program, find_program
+from ..program import Program
 from . import folder as folders
 from .folder import Folder
 from .store import File, Maker, Store
@@ -35,15 +36,13 @@ def add_words(parser: argparse.ArgumentParser) -> None:
     table.add_words(parser, table.VERDICTS)
     files.add_words(parser, is_followed=False)
     cli.add_jobs(parser)
-    cli.add_program(parser)
 
 
 def run(options: argparse.Namespace) -> int:
     """Checks and remembers the files of a folder."""
     folder, walk = Folder(options.folder), files.walk_of(options)
-    program = Program(find_program(options.program))
-    program.prepare()
-    with Store(options.store, cli.tell_check) as store:
+    program = Program(options.program)
+    with Store(options.store, cli.tell, is_made=True) as store:
         keeper = Keeper(store, folder, Maker(program.digest(), RULES))
         checker = Checker(program, frozenset(store.contents(keeper.maker)))
 
@@ -51,13 +50,11 @@ def run(options: argparse.Namespace) -> int:
             named, is_known = item
             return table.Row(named.path) if is_known else checker.row_of(named)
 
-        def lost(item: Tuple[files.Named, bool]) -> table.Row:
-            return table.Row(item[0].path, "failed", "no memory")
-
+        lost = lambda item: table.lost(item[0])
         rows = pool.in_order(checked, keeper.items(walk), options.jobs, lost)
-        shown_rows = table.print_all(map(keeper.taken, rows), options)
+        shown_rows = table.Table(options).add_all(map(keeper.taken, rows))
         keeper.end()
-    return shown_rows.ended(files.nothing_found(walk))
+    return shown_rows.ended(files.nothing_found(walk), f"; {shown(store.path)} is written")
 
 
 class Keeper:
@@ -74,16 +71,13 @@ class Keeper:
         """The files, and whether the store knows what each is by its size and time."""
         for named, told in self.folder.files(walk, self.store.path):
             had = None if named.fault else self.store.file(self.folder.within(named.path))
-            is_same = had is not None and (had.bytes, had.mtime_ns) == (
-                told.st_size,
-                told.st_mtime_ns,
-            )
-            yield named, is_same and self._known(named.path, had) is not None
+            state = told.st_size, told.st_mtime_ns
+            is_same = had is not None and (had.bytes, had.mtime_ns) == state
+            yield named, is_same and self._told(named.path, had and had.sha256) is not None
 
-    def _known(self, path: str, file: Optional[File]) -> Optional[str]:
-        if file is None:
-            return None
-        return self.store.told_of(file.sha256, self.maker, is_called_drawing(path))
+    def _told(self, path: str, sha256: Optional[str]) -> Optional[str]:
+        """What the store has of a content, by how the file is called."""
+        return self.store.told_of(sha256 or "", self.maker, is_called_drawing(path))
 
     def taken(self, row: table.Row) -> table.Row:
         """The row of a file, which the store has from now on."""
@@ -92,11 +86,11 @@ class Keeper:
             had = self.store.file(within)
             if row.sha256 is None and had is not None:
                 row.sha256, row.bytes, row.mtime_ns = had.sha256, had.bytes, had.mtime_ns
-            told = self.store.told_of(row.sha256 or "", self.maker, is_called_drawing(row.path))
-            row = row_of(json.loads(told or "{}"), row)
+            row = row_of(json.loads(self._told(row.path, row.sha256) or "{}"), row)
         elif row.sha256:
-            is_called = is_called_drawing(row.path)
-            self.store.put_content(row.sha256, self.maker, is_called, json.dumps(told_of(row)))
+            found = table.as_object(row)
+            told = json.dumps({name: found[name] for name in TOLD})
+            self.store.put_content(row.sha256, self.maker, is_called_drawing(row.path), told)
         if row.sha256 and row.bytes is not None and row.mtime_ns is not None:
             self._take(File(within, row.bytes, row.mtime_ns, row.sha256))
         self.store.commit_in_time()
@@ -123,30 +117,22 @@ class Keeper:
                     moved.append(file.path)
                 else:
                     gone.append(file.path)
-        for paths, what in (
-            (moved, "moved, and kept by the new name"),
-            (self._others, "of another content than was kept, which is kept now"),
-            (gone, "gone, and kept until dwg-check forget"),
-        ):
-            if paths:
-                first = shown(os.fsdecode(paths[0]))
-                name = shown(self.store.path)
-                cli.tell_check(f"{name}: {len(paths)} {what}; the first is {first}")
+        self._tell(moved, "moved, and kept by the new name")
+        self._tell(self._others, "of another content than was kept, which is kept now")
+        self._tell(gone, "gone, and kept until dwg-check forget")
 
-
-def told_of(row: table.Row) -> Dict[str, Any]:
-    """What is told of the content of a row."""
-    told = table.as_object(row)
-    return {name: told[name] for name in TOLD}
+    def _tell(self, paths: List[bytes], what: str) -> None:
+        if paths:
+            first, name = shown(os.fsdecode(paths[0])), shown(self.store.path)
+            cli.tell(f"{name}: {len(paths)} {what}; the first is {first}")
 
 
 def row_of(told: Dict[str, Any], row: table.Row) -> table.Row:
     """The row of a file by what is told of its content."""
-    refusal, preview = told.pop("refusal", None), told.pop("preview", None)
-    for name, value in told.items():
-        setattr(row, name, value)
-    row.refusal = Refusal(**refusal) if refusal else None
+    refusal, preview = told.get("refusal"), told.get("preview")
+    if refusal:
+        told["refusal"] = Refusal(**refusal)
     if preview:
         pictures = tuple(Picture(**one) for one in preview["pictures"])
-        row.preview = Preview(preview["bytes"], pictures)
-    return row
+        told["preview"] = Preview(preview["bytes"], pictures)
+    return dataclasses.replace(row, **told)

@@ -14,11 +14,11 @@ from __future__ import annotations
 import contextlib
 import os
 import sqlite3
-import stat
 import time
 import zlib
 from typing import Any, Callable, Iterator, List, NamedTuple, Optional, Sequence, Tuple
 
+from ..atomic import begun, finish, place
 from ..files import is_called_drawing, shown
 from ..statuses import Exit, ToolError
 
@@ -35,6 +35,7 @@ TABLES = {
     " crc32 INTEGER",
 }
 SCHEMA = [f"CREATE TABLE {name} ({columns}) WITHOUT ROWID" for name, columns in TABLES.items()]
+MARKS = [f"PRAGMA application_id = {APPLICATION}", f"PRAGMA user_version = {FORM}"]
 
 # How many seconds of a run may be lost.
 EACH = 1.0
@@ -68,6 +69,10 @@ class Maker(NamedTuple):
     rules: int
 
 
+# What a journal of SQLite begins with, where it isn't zeroed.
+JOURNAL = bytes.fromhex("d9d505f920a163d7")
+
+
 def crc_of(row: Sequence[Any]) -> int:
     """The CRC-32 of the values of a row."""
     return zlib.crc32(repr(tuple(row)).encode("utf-8", "surrogatepass"))
@@ -78,20 +83,17 @@ class Store:
     is damaged."""
 
     def __init__(
-        self,
-        path: str,
-        tell: Callable[[str], None],
-        is_written: bool = True,
-        must_exist: bool = False,
+        self, path: str, tell: Callable[[str], None], is_written: bool = True, is_made: bool = False
     ) -> None:
         self.path, self._is_written = path, is_written
         self.damaged = 0
         self._committed = time.monotonic()
-        self._refuse_kind(must_exist or not is_written)
+        self._refuse_kind(is_made)
+        self._refuse_side_files()
+        if not os.path.lexists(path):
+            self._make()
         with self._told():
-            self._database = sqlite3.connect(
-                _address(path, is_written), uri=True, timeout=0, isolation_level=None
-            )
+            self._database = _database(path)
             try:
                 self._begin(tell)
             except BaseException:
@@ -109,20 +111,35 @@ class Store:
         finally:
             self._database.close()
 
-    def _refuse_kind(self, must_exist: bool) -> None:
-        """Refuses what SQLite would wait for, or make a database of: an empty drawing too."""
+    def _refuse_kind(self, is_made: bool) -> None:
+        """Refuses what is called as a drawing, and what SQLite would wait for."""
         if is_called_drawing(self.path):
             why = "called as a drawing; name another file as STORE"
-            raise ToolError(f"{shown(self.path)}: {why}", Exit.WORDS)
-        try:
-            told = os.stat(self.path)
-        except FileNotFoundError:
-            if must_exist:
-                raise ToolError(f"{shown(self.path)}: no store there", Exit.WORDS) from None
+        elif os.path.isfile(self.path) or is_made and not os.path.lexists(self.path):
             return
-        if not stat.S_ISREG(told.st_mode):
-            kind = "a folder" if stat.S_ISDIR(told.st_mode) else "no regular file"
-            raise ToolError(f"{shown(self.path)}: {kind}; name a file as STORE", Exit.WORDS)
+        elif os.path.lexists(self.path):
+            kind = "a folder" if os.path.isdir(self.path) else "no regular file"
+            why = f"{kind}; name a file as STORE"
+        else:
+            why = "no store there"
+        raise ToolError(f"{shown(self.path)}: {why}", Exit.WORDS)
+
+    def _refuse_side_files(self) -> None:
+        """Refuses what stands where SQLite writes beside the store, but for the store's journal."""
+        for path in (f"{self.path}{side}" for side in ("-journal", "-wal", "-shm")):
+            is_own = path.endswith("-journal") and os.path.lexists(self.path) and _is_journal(path)
+            if os.path.lexists(path) and not is_own:
+                why = "in the way of the store; move it, or name another file as STORE"
+                raise ToolError(f"{shown(path)}: {why}", Exit.WORDS)
+
+    def _make(self) -> None:
+        """Makes an empty store. It has its name once it is whole: an empty file is nobody's."""
+        with begun(os.path.dirname(self.path) or ".") as file, self._told():
+            with contextlib.closing(_database(file.name)) as made:
+                for statement in ("BEGIN EXCLUSIVE", *SCHEMA, *MARKS, "COMMIT"):
+                    made.execute(statement)
+            finish(file, None)
+            place(file.name, self.path, False, None)
 
     @contextlib.contextmanager
     def _told(self) -> Iterator[None]:
@@ -147,12 +164,6 @@ class Store:
             self._database.execute("BEGIN EXCLUSIVE")
         else:
             self._database.execute("BEGIN")
-        if self._is_written and not os.path.getsize(self.path):
-            for statement in SCHEMA:
-                self._database.execute(statement)
-            self._database.execute(f"PRAGMA application_id = {APPLICATION}")
-            self._database.execute(f"PRAGMA user_version = {FORM}")
-            self.commit()
         self._refuse_other()
         for table in TABLES:
             self._drop_damaged(table)
@@ -255,13 +266,12 @@ class Store:
         with self._told():
             return sorted(File(*row) for row in self._rows("file"))
 
-    def put_file(self, file: File) -> Optional[File]:
-        """Takes a file as it is; what was kept of it before."""
+    def put_file(self, file: File) -> None:
+        """Takes a file as it is."""
         old = self.file(file.path)
         if old is not None and old.sha256 != file.sha256:
             self._happened("content", file.path, old.sha256, file.sha256)
         self._put("file", file)
-        return old
 
     def move(self, old: File, new: bytes) -> None:
         """Has a file by its new name alone."""
@@ -289,11 +299,6 @@ class Store:
         row = self._one("SELECT * FROM output WHERE name = ?", name)
         return Output(*row) if row else None
 
-    def outputs(self) -> List[Output]:
-        """All that was written, in order of name."""
-        with self._told():
-            return sorted(Output(*row) for row in self._rows("output"))
-
     def put_output(self, output: Output) -> None:
         """Keeps what is about to take its name, or has taken it."""
         self._put("output", output)
@@ -303,7 +308,15 @@ class Store:
 DAMAGED = "damaged as a whole; take it from its backup, or remove it and keep the folder again"
 
 
-def _address(path: str, is_written: bool) -> str:
-    """The address by which SQLite opens a file of whatever name."""
+def _is_journal(path: str) -> bool:
+    """Whether a file is what SQLite goes back by after a run that was killed."""
+    if not os.path.isfile(path) or os.path.islink(path) or os.lstat(path).st_nlink != 1:
+        return False
+    with open(path, "rb") as file:
+        return file.read(len(JOURNAL)) in (b"", JOURNAL, bytes(len(JOURNAL)))
+
+
+def _database(path: str) -> sqlite3.Connection:
+    """Opens a database that stands, of whatever name."""
     name = "".join(f"%{byte:02x}" for byte in os.fsencode(os.path.abspath(path)))
-    return f"file:{name}?mode={'rwc' if is_written else 'rw'}"
+    return sqlite3.connect(f"file:{name}?mode=rw", uri=True, timeout=0, isolation_level=None)

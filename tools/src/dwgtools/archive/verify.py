@@ -10,7 +10,8 @@ from typing import Any, Deque, Dict, Iterator, List, Optional, Tuple
 
 from .. import cli, files, pool
 from ..check import table
-from ..files import Changed, shown, utf8_name
+from ..check.verdict import unread
+from ..files import shown, utf8_name
 from ..statuses import Exit, ToolError
 from . import folder as folders
 from .folder import Folder
@@ -20,8 +21,8 @@ DESCRIPTION = """\
 Reads all files of FOLDER, which may be a copy anywhere, and compares them with what keep
 remembered: same, changed, missing, new, moved (a missing one's content under a new name),
 unreadable, failed. Names are paths in the folder. Nothing is written without --take.
-Status: 0 all the same, or taken; 68 some not; 2 wrong words; 66 no folder, or nothing kept;
-70 failure of the tool, or a damaged store; 130 interrupted."""
+Status: 0 all the same, or taken; 68 some not, or rows of the store are damaged; 2 wrong words, no
+store; 66 no folder, or nothing kept; 70 failure, or the store is no use; 130 interrupted."""
 
 STATES = ("same", "changed", "missing", "new", "moved", "unreadable", "failed")
 COLUMNS = ("path", "verdict", "detail", "bytes", "sha256")
@@ -44,12 +45,9 @@ def add_words(parser: argparse.ArgumentParser) -> None:
     """The words of verify."""
     folders.add_words(parser)
     parser.add_argument(
-        "--take",
-        type=_taken,
-        metavar="new,moved",
-        default=(),
+        "--take", type=_taken, metavar="new,moved", default=(),
         help="remember new files, moved ones by the new name, or both",
-    )
+    )  # fmt: skip
     table.add_words(parser, STATES)
     files.add_words(parser, is_followed=False)
     cli.add_jobs(parser)
@@ -65,17 +63,17 @@ def _taken(word: str) -> Tuple[str, ...]:
 def run(options: argparse.Namespace) -> int:
     """Compares the files of a folder with what the store has of them."""
     folder, walk = Folder(options.folder), files.walk_of(options)
-    with Store(options.store, cli.tell_check, is_written=bool(options.take)) as store:
+    with Store(options.store, cli.tell, is_written=bool(options.take)) as store:
         comparison = Comparison(store, folder)
         if not comparison.kept:
             raise ToolError(f"{shown(store.path)}: nothing is kept", Exit.NOTHING_FOUND)
         read = pool.in_order(_read, comparison.names(walk), options.jobs, _lost)
-        printed = table.print_all(comparison.compared(read), options, COLUMNS)
+        printed = table.Table(options, COLUMNS).add_all(comparison.compared(read))
         printed.ended("")
         for state in options.take:
             comparison.take(state)
             if printed.counts[state] and not options.quiet:
-                cli.tell_check(f"{shown(store.path)}: {printed.counts[state]} {state} taken")
+                cli.tell(f"{shown(store.path)}: {printed.counts[state]} {state} taken")
         is_other = bool(printed.counts.keys() - {"same", *options.take})
         return Exit.NOT_AS_KEPT if is_other or store.damaged else Exit.WELL
 
@@ -95,11 +93,8 @@ def _read(item: Item) -> Compared:
         with content.file:
             row.bytes, row.mtime_ns, row.sha256 = content.size, content.mtime_ns, content.digest()
             content.refuse_changed()
-    except Changed as changed:
-        row.verdict, row.detail, row.sha256 = "failed", str(changed.strerror), None
-    except (OSError, ValueError, MemoryError) as unread:
-        why = getattr(unread, "strerror", None) or unread
-        row.verdict, row.detail, row.sha256 = "unreadable", str(why), None
+    except (OSError, ValueError, MemoryError) as why:
+        (row.verdict, row.detail), row.sha256 = unread(why), None
     return row
 
 
@@ -114,8 +109,7 @@ class Comparison:
         self._store, self._folder = store, folder
         self.kept: Dict[bytes, File] = {file.path: file for file in store.files()}
         self._gone: Dict[str, Deque[File]] = collections.defaultdict(collections.deque)
-        self._new: List[Compared] = []
-        self._moved: List[Tuple[Compared, File]] = []
+        self._unknown: List[Tuple[Compared, Optional[File]]] = []
 
     def names(self, walk: files.Walk) -> Iterator[Item]:
         """All files of the folder that are taken or kept. What is gone is known after the last."""
@@ -155,25 +149,22 @@ class Comparison:
     def _know(self, row: Compared) -> None:
         """Tells whether a file that isn't kept by its name is a missing one."""
         gone = self._gone.get(row.sha256 or "")
-        row.verdict = "moved" if gone else "new"
-        if not gone:
-            self._new.append(row)
-            return
-        file = gone.popleft()
-        row.detail, row.kept = f"was {utf8_name(os.fsdecode(file.path))}", _as_object(file)
-        self._moved.append((row, file))
+        file = gone.popleft() if gone else None
+        row.verdict = "moved" if file else "new"
+        if file:
+            row.detail, row.kept = f"was {utf8_name(os.fsdecode(file.path))}", _as_object(file)
+        self._unknown.append((row, file))
 
     def take(self, state: str) -> None:
         """Has the store have the new files, or the moved ones by their new names."""
-        for row, file in self._moved if state == "moved" else []:
-            self._put(row)
-            self._store.move(file, os.fsencode(row.path))
-        for row in self._new if state == "new" else []:
-            self._put(row)
-
-    def _put(self, row: Compared) -> None:
-        assert row.bytes is not None and row.mtime_ns is not None and row.sha256 is not None
-        self._store.put_file(File(os.fsencode(row.path), row.bytes, row.mtime_ns, row.sha256))
+        for row, file in self._unknown:
+            if row.verdict != state:
+                continue
+            path = os.fsencode(row.path)
+            assert row.bytes is not None and row.mtime_ns is not None and row.sha256 is not None
+            self._store.put_file(File(path, row.bytes, row.mtime_ns, row.sha256))
+            if file:
+                self._store.move(file, path)
 
 
 def _as_object(file: File) -> Dict[str, Any]:

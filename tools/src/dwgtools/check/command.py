@@ -5,12 +5,12 @@ from __future__ import annotations
 import argparse
 
 from .. import cli, files, pool
-from ..program import Program, find_program
+from ..program import Program
 from . import table
 from .verdict import Checker
 
 DESCRIPTION = """\
-Says of each file whether it is a drawing of AutoCAD R14 or R2000, whether it is whole, and
+Says of each file whether it is a drawing of AutoCAD R14 to 2002, whether it is whole, and
 whether its references hold together. Verdicts: sound, unsound, trailing bytes, damaged,
 other version, no drawing, too large, unreadable, failed. Further commands:
 
@@ -31,21 +31,14 @@ def add_words(parser: argparse.ArgumentParser) -> None:
     table.add_words(parser, table.VERDICTS)
     files.add_words(parser)
     cli.add_jobs(parser)
-    cli.add_program(parser)
 
 
 def run(options: argparse.Namespace) -> int:
     """Checks the files that the words name."""
-    program = Program(find_program(options.program))
-    program.prepare()
+    program = Program(options.program)
     checker = Checker(program)
     walk = files.walk_of(options)
     # (a stream is read by this process, which has it)
     jobs = 1 if any(map(files.is_stream, options.files)) else options.jobs
-    checked = pool.in_order(checker.row_of, files.named(options.files, walk), jobs, lost)
-    return table.print_all(checked, options).ended(files.nothing_found(walk))
-
-
-def lost(one: files.Named) -> table.Row:
-    """The line of a file by which a process ended."""
-    return table.Row(one.path, "failed", "no memory")
+    checked = pool.in_order(checker.row_of, files.named(options.files, walk), jobs, table.lost)
+    return table.Table(options).add_all(checked).ended(files.nothing_found(walk))

@@ -5,7 +5,7 @@ from __future__ import annotations
 
 import re
 from dataclasses import dataclass
-from typing import Any, Dict
+from typing import Any, Dict, Iterable, Iterator
 
 from ..program import ProgramFailed
 
@@ -28,27 +28,16 @@ REASONS = (
     ("objects", "place length overlap check head handle"),
     ("sections", "short"),
 )
+LINES = [(part, reason) for part, reasons in REASONS for reason in reasons.split()]
 # The bytes of a header of which line 1 asks.
 SHORTEST = 25
-
-
-def _lines() -> Dict[Any, int]:
-    """The first line of each part and reason."""
-    lines: Dict[Any, int] = {}
-    names = [(part, reason) for part, reasons in REASONS for reason in reasons.split()]
-    for line, name in enumerate(names, 1):
-        lines.setdefault(name, line)
-    return lines
-
-
-LINES = _lines()
 
 
 def line_of(part: str, reason: str, place: int) -> int:
     """The line of the table of refusals."""
     if (part, reason) == ("header", "short") and place >= SHORTEST:
         return 4
-    return LINES[part, reason]
+    return LINES.index((part, reason)) + 1
 
 
 @dataclass(frozen=True)
@@ -73,13 +62,21 @@ class Finding:
         }  # fmt: skip
 
 
-_FINDING = re.compile(rb"finding ([0-9A-F]+) (\w+) (-|\w+) (\d+) ([0-9A-F]+)\n?")
+_FINDING = re.compile(rb"finding ([0-9A-F]+) (\w+) (-|\w+) (\d+) ([0-9A-F]+)\n")
 
 
-def read_finding(line: bytes) -> Finding:
-    """The finding that a line of `audit` is."""
-    words = _FINDING.fullmatch(line)
-    if not words:
-        raise ProgramFailed("`audit` prints what is no finding")
-    rule, field = words[2].decode(), words[3].decode()
-    return Finding(int(words[1], 16), rule, field, int(words[4]), int(words[5], 16))
+def findings_in(lines: Iterable[bytes]) -> Iterator[Finding]:
+    """The findings that `audit` prints, and then how many there are."""
+    count, end = 0, b""
+    for line in lines:
+        words = _FINDING.fullmatch(line)
+        if end or not words and not line.startswith(b"audit "):
+            raise ProgramFailed("`audit` prints what is no finding")
+        if not words:
+            end = line
+            continue
+        count += 1
+        rule, field = words[2].decode(), words[3].decode()
+        yield Finding(int(words[1], 16), rule, field, int(words[4]), int(words[5], 16))
+    if end != (b"audit no %d\n" % count if count else b"audit yes\n"):
+        raise ProgramFailed("`audit` doesn't end as it should")

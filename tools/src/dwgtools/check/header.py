@@ -5,8 +5,8 @@ The program tells whether a drawing is whole. This reads, of a whole one alone, 
 
 from __future__ import annotations
 
-from dataclasses import dataclass, field
-from typing import Iterator, List, Optional, Sequence, Tuple
+from dataclasses import dataclass
+from typing import Iterator, List, NamedTuple, Optional, Sequence, Tuple
 
 from ..program import Program, ProgramFailed
 from ..statuses import Status
@@ -17,14 +17,9 @@ LIMIT, MOST_HEADER = 33_554_432, 97
 # The versions that the program reads, and how others are called, by the first six bytes.
 OURS = (b"AC1014", b"AC1015")
 VERSIONS = {
-    b"AC1009": "R12",
-    b"AC1012": "R13",
-    b"AC1018": "2004",
-    b"AC1021": "2007",
-    b"AC1024": "2010",
-    b"AC1027": "2013",
-    b"AC1032": "2018",
-}
+    b"AC1009": "R12", b"AC1012": "R13", b"AC1018": "2004", b"AC1021": "2007", b"AC1024": "2010",
+    b"AC1027": "2013", b"AC1032": "2018",
+}  # fmt: skip
 
 HEADER_SENTINEL = bytes.fromhex("95A04E2899821AE55E41E05F9D3A4D00")
 VARIABLES_SENTINEL = bytes.fromhex("CF7B1F23FDDE38A95F7C68B84E6D335F")
@@ -49,12 +44,12 @@ class Preview:
     pictures: Tuple[Picture, ...] = ()
 
 
-@dataclass
-class Sections:
-    """Where the preview is, and for each locator of a header its number, place and size."""
+class Locator(NamedTuple):
+    """What stands where: the number of a section, or the code of a picture, its place and size."""
 
-    preview: int = 0
-    locators: List[Tuple[int, int, int]] = field(default_factory=list)
+    number: int
+    place: int
+    size: int
 
 
 # Where a file header has the place of the preview, the number of its locators, and the first of
@@ -88,16 +83,15 @@ def version_of_rest(program: Program, prefix: bytes) -> Optional[str]:
     return None
 
 
-def sections_of(data: bytes) -> Sections:
-    """What the header of a whole drawing says."""
-    end = LOCATORS_PLACE + LOCATOR * little(data, COUNT_PLACE, 4)
-    return Sections(
-        little(data, PREVIEW_PLACE, 4),
-        [
-            (data[at], little(data, at + 1, 4), little(data, at + 5, 4))
-            for at in range(LOCATORS_PLACE, end, LOCATOR)
-        ],
-    )
+def locators_at(data: bytes, begin: int, count: int) -> List[Locator]:
+    """So many locators that stand at a place."""
+    places = range(begin, begin + LOCATOR * count, LOCATOR)
+    return [Locator(data[at], little(data, at + 1, 4), little(data, at + 5, 4)) for at in places]
+
+
+def sections_of(data: bytes) -> List[Locator]:
+    """The sections that the header of a whole drawing names."""
+    return locators_at(data, LOCATORS_PLACE, little(data, COUNT_PLACE, 4))
 
 
 def complement(sentinel: bytes) -> bytes:
@@ -141,8 +135,9 @@ def end_of_second_header(data: bytes, begin: int, ends: Sequence[int]) -> int:
     return 0
 
 
-def pages_of_map(data: bytes, place: int) -> Iterator[Tuple[int, int]]:
+def pages_of_map(data: bytes) -> Iterator[Tuple[int, int]]:
     """Begin and end of each page of the map, without its check word; the last has size 2."""
+    place = {one.number: one.place for one in sections_of(data)}[2]
     while True:
         size = int.from_bytes(data[place : place + 2], "big")
         yield place, place + size
@@ -188,12 +183,12 @@ def end_of_frame(data: bytes, place: int) -> int:
 def end_of_drawing(data: bytes) -> int:
     """Where the last part of a whole drawing ends. The objects are only asked where no other part
     ends with the file."""
-    told = sections_of(data)
-    pages = list(pages_of_map(data, {number: place for number, place, _ in told.locators}[2]))
+    sections = sections_of(data)
+    pages = list(pages_of_map(data))
     after_map = pages[-1][1] + 2
-    ends = [LOCATORS_PLACE + LOCATOR * len(told.locators) + 18, after_map]
-    ends.append(end_of_sentinels(data, told.preview, PREVIEW_SENTINEL))
-    for number, place, size in told.locators:
+    ends = [LOCATORS_PLACE + LOCATOR * len(sections) + 18, after_map]
+    ends.append(end_of_sentinels(data, little(data, PREVIEW_PLACE, 4), PREVIEW_SENTINEL))
+    for number, place, size in sections:
         if number < 2:
             ends.append(place + 38 + little(data, place + 16, 4))
         elif number > 2 and size:
@@ -213,17 +208,13 @@ def preview_of(data: bytes) -> Optional[Preview]:
     size = little(data, place + 16, 4)
     section = data[place : place + 36 + size]
     end = 20 + size
-    if not size or section[:16] != PREVIEW_SENTINEL:
+    ends = section[:16], section[end : end + 16]
+    if not size or ends != (PREVIEW_SENTINEL, complement(PREVIEW_SENTINEL)):
         return None
-    if section[end : end + 16] != complement(PREVIEW_SENTINEL):
-        return None
-    further = 21 + 9 * section[20]
+    further = 21 + LOCATOR * section[20]
     if further > end:
         return None
-    entries = [
-        (section[at], little(section, at + 1, 4), little(section, at + 5, 4))
-        for at in range(21, further, 9)
-    ]
-    if any(count and not further <= at - place <= end - count for _, at, count in entries):
+    entries = [one for one in locators_at(section, 21, section[20]) if one.size]
+    if any(not further <= one.place - place <= end - one.size for one in entries):
         return None
-    return Preview(size, tuple(Picture(code, count) for code, _, count in entries if count))
+    return Preview(size, tuple(Picture(one.number, one.size) for one in entries))

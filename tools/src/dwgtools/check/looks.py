@@ -13,21 +13,14 @@ INNER_VERSION = re.compile(rb"AC10[0-9]{2}(?=\0{5})")
 
 # What other files begin with.
 SIGNATURES = [
-    (b"\xff\xd8\xff", "JPEG picture"),
-    (b"\x89PNG\r\n\x1a\n", "PNG picture"),
-    (b"GIF8", "GIF picture"),
-    (b"II*\0", "TIFF picture"),
-    (b"MM\0*", "TIFF picture"),
-    (b"%PDF-", "PDF document"),
-    (b"PK\x03\x04", "zip archive"),
-    (b"PK\x05\x06", "zip archive"),
-    (b"\x1f\x8b", "gzip archive"),
-    (b"7z\xbc\xaf\x27\x1c", "7z archive"),
+    (b"\xff\xd8\xff", "JPEG picture"), (b"\x89PNG\r\n\x1a\n", "PNG picture"),
+    (b"GIF8", "GIF picture"), (b"II*\0", "TIFF picture"), (b"MM\0*", "TIFF picture"),
+    (b"%PDF-", "PDF document"), (b"\xd0\xcf\x11\xe0\xa1\xb1\x1a\xe1", "OLE document"),
+    (b"PK\x03\x04", "zip archive"), (b"PK\x05\x06", "zip archive"),
+    (b"\x1f\x8b", "gzip archive"), (b"7z\xbc\xaf\x27\x1c", "7z archive"),
     (b"AutoCAD Binary DXF\r\n", "binary DXF"),
-    (b"\xd0\xcf\x11\xe0\xa1\xb1\x1a\xe1", "OLE document"),
-    (b"\xff\xfe", "text in UTF-16"),
-    (b"\xfe\xff", "text in UTF-16"),
-]
+    (b"\xff\xfe", "text in UTF-16"), (b"\xfe\xff", "text in UTF-16"),
+]  # fmt: skip
 DXF = re.compile(
     rb"(?:\xef\xbb\xbf)?(?:\s*999[ \t]*\r?\n[^\n]*\n)*\s*0[ \t]*\r?\n[ \t]*SECTION\s"
 )

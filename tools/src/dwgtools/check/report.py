@@ -5,15 +5,13 @@ from __future__ import annotations
 import argparse
 import functools
 import json
-from dataclasses import dataclass
-from typing import Any, Dict, Iterable
+from typing import Any, Dict, Iterable, NamedTuple
 
 from .. import __version__, cli, files, pool
 from ..files import Content, Named, utf8_name
-from ..program import Program, ProgramFailed, find_program
-from ..statuses import Status
+from ..program import Program
 from . import table, xml
-from .findings import Finding, line_of, read_finding
+from .findings import findings_in, line_of
 from .risks import Listed, Survey
 from .table import Row
 from .verdict import Checker
@@ -44,29 +42,25 @@ def add_words(parser: argparse.ArgumentParser) -> None:
     parser.add_argument(
         "--accept-known", action="store_true", help="with known findings alone it is sound"
     )
-    parser.add_argument("--quiet", action="store_true", help="no counts and no progress")
+    parser.add_argument("--quiet", action="store_true", help="no counts")
     parser.set_defaults(json=True, only=None, print0=False)
     files.add_words(parser)
     cli.add_jobs(parser)
-    cli.add_program(parser)
 
 
 def run(options: argparse.Namespace) -> int:
     """Reports on the files that the words name."""
-    program = Program(find_program(options.program))
-    program.prepare()
+    program = Program(options.program)
     walk = files.walk_of(options)
     # (a stream is read by this process, which has it)
     jobs = 1 if any(map(files.is_stream, options.files)) else options.jobs
     work = functools.partial(reported, program, options.accept_known)
     found = pool.in_order(work, files.named(options.files, walk), jobs, lost)
     shown = (Document if options.xml else Lines)(options, program)
-    shown.add_all(found)
-    return shown.ended(files.nothing_found(walk))
+    return shown.add_all(found).ended(files.nothing_found(walk))
 
 
-@dataclass(frozen=True)
-class Report:
+class Report(NamedTuple):
     """What is told of a file."""
 
     verdict: str
@@ -88,7 +82,7 @@ class Lines(table.Table):
 class Document(Lines):
     """Prints reports as a document, which is well-formed and has no `end` where it is cut off."""
 
-    def add_all(self, rows: Iterable[Report]) -> None:
+    def add_all(self, rows: Iterable[Report]) -> table.Table:
         top: Dict[str, Any] = {"schema": table.SCHEMA, **self.maker}
         cli.printed([xml.BEGIN, xml.encoded(xml.opened("report", top))])
         try:
@@ -97,6 +91,7 @@ class Document(Lines):
             cli.printed([xml.encoded("".join(xml.element("end", {"files": count})))])
         finally:
             cli.printed([b"</report>\n"])
+        return self
 
     def _line(self, row: Report) -> bytes:
         return xml.encoded("".join(xml.element("file", row.told)))
@@ -104,7 +99,7 @@ class Document(Lines):
 
 def lost(named: Named) -> Report:
     """The report of a file by which a process ended."""
-    return told_of(Row(named.path, "failed", "no memory"), {})
+    return told_of(table.lost(named), {})
 
 
 def reported(program: Program, is_accepting: bool, named: Named) -> Report:
@@ -149,8 +144,7 @@ class Reader(Checker):
         survey = Survey()
         with self.program.lines(["show"], content.data) as lines:
             survey.read(lines)
-            if lines.status() != Status.DONE:
-                raise ProgramFailed(f"status {lines.status()} for `show`")
+            lines.refuse_unread()
         self.more.update(objects=survey.forms, risks=survey.told())
         with self.program.lines(["audit"], content.data) as lines:
             self.more["findings"] = findings_of(lines, survey)
@@ -159,15 +153,9 @@ class Reader(Checker):
 def findings_of(lines: Iterable[bytes], survey: Survey) -> Dict[str, Any]:
     """What `audit` says of a drawing."""
     found, known = Listed(), 0
-    for line in lines:
-        if not line.startswith(b"audit "):
-            one = read_finding(line)
-            is_one = is_known(one, survey)
-            known += is_one
-            found.add(one.told(survey.kind_of(one.handle), is_one))
+    for one in findings_in(lines):
+        # (AutoCAD leaves such, which are harmless to look at)
+        is_known = (one.rule, one.field) in KNOWN and survey.is_orphan(one.handle)
+        known += is_known
+        found.add(one.told(survey.kind_of(one.handle), is_known))
     return {"known": known, **found.told()}
-
-
-def is_known(one: Finding, survey: Survey) -> bool:
-    """Whether AutoCAD leaves such a finding, which is harmless to look at."""
-    return (one.rule, one.field) in KNOWN and survey.is_orphan(one.handle)

@@ -5,10 +5,9 @@ from __future__ import annotations
 
 import collections
 from array import array
-from bisect import bisect_left
-from typing import Any, Counter, Dict, Iterable, List, Optional, Sequence
+from typing import Any, Counter, Dict, Iterable, List
 
-from ..show import Class, Object, Text
+from ..show import Class, Object, Text, place_in
 
 # How many of each list are told; how many there are is told besides.
 MOST_LISTED = 1000
@@ -23,12 +22,6 @@ IMAGES = {"IMAGEDEF", "PDFDEFINITION", "DWFDEFINITION", "DGNDEFINITION"}
 OLE_FRAMES = {43: "OLEFRAME", 74: "OLE2FRAME"}
 PROXIES = {498: "ACAD_PROXY_ENTITY", 499: "ACAD_PROXY_OBJECT"}
 FIRST_CLASS = 500
-
-
-def place_in(handles: Sequence[int], handle: int) -> Optional[int]:
-    """Where a handle stands among others that ascend."""
-    at = bisect_left(handles, handle)
-    return at if at < len(handles) and handles[at] == handle else None
 
 
 class Listed:
@@ -71,16 +64,12 @@ class Survey:
             if one.number in OLE_FRAMES:
                 self._frames.add({"handle": f"{one.handle:X}", "kind": OLE_FRAMES[one.number]})
             elif one.number >= FIRST_CLASS or one.number in PROXIES:
-                self._take_of_class(one)
+                self._of_class[one.number] += 1
+                known = self._text.classes.get(one.number)
+                if known and known.dxf in IMAGES:
+                    self._images.add({"handle": f"{one.handle:X}", "kind": known.dxf})
             if one.form == "typed":
                 self._take(one)
-
-    def _take_of_class(self, one: Object) -> None:
-        """Takes an object of a class, or a proxy."""
-        self._of_class[one.number] += 1
-        found = self._text.classes.get(one.number)
-        if found and found.dxf in IMAGES:
-            self._images.add({"handle": f"{one.handle:X}", "kind": found.dxf})
 
     def _take(self, one: Object) -> None:
         """Takes an object that is read by all its fields."""

@@ -10,23 +10,16 @@ from dataclasses import asdict, dataclass
 from typing import Any, Dict, Iterable, Optional, Sequence, Tuple
 
 from ..cli import printed, tell
-from ..files import one_line, shown, utf8_name
+from ..files import Named, one_line, shown, utf8_name
 from ..notes import Refusal
-from ..pool import Progress
 from ..statuses import Exit
 from .header import Preview
 
 # What a file can be, and the status of a run whose worst file is that.
 VERDICTS: Dict[str, int] = {
     "sound": Exit.WELL,
-    "unsound": Exit.FOUND,
-    "trailing bytes": Exit.FOUND,
-    "other version": Exit.FOUND,
-    "too large": Exit.FOUND,
-    "damaged": Exit.DAMAGED,
-    "no drawing": Exit.DAMAGED,
-    "unreadable": Exit.DAMAGED,
-    "failed": Exit.DAMAGED,
+    **dict.fromkeys(("unsound", "trailing bytes", "other version", "too large"), Exit.FOUND),
+    **dict.fromkeys(("damaged", "no drawing", "unreadable", "failed"), Exit.DAMAGED),
 }
 
 # The form of JSON lines.
@@ -50,6 +43,11 @@ class Row:
     sha256: Optional[str] = None
     preview: Optional[Preview] = None
     is_lasting: bool = False
+
+
+def lost(named: Named) -> Row:
+    """The line of a file by which a process ended."""
+    return Row(named.path, "failed", "no memory")
 
 
 COLUMNS = ("path", "verdict", "detail", "findings", "bytes", "trailing", "version")
@@ -86,12 +84,10 @@ def add_words(parser: argparse.ArgumentParser, states: Iterable[str]) -> None:
         return verdicts
 
     parser.add_argument(
-        "--only",
-        type=chosen,
-        metavar="VERDICT[,VERDICT..]",
+        "--only", type=chosen, metavar="VERDICT[,VERDICT..]",
         help="print files of these verdicts alone; counts and status are those of all",
-    )
-    parser.add_argument("--quiet", action="store_true", help="no counts and no progress")
+    )  # fmt: skip
+    parser.add_argument("--quiet", action="store_true", help="no counts")
 
 
 class Table:
@@ -99,10 +95,7 @@ class Table:
     what is counted."""
 
     def __init__(
-        self,
-        options: argparse.Namespace,
-        columns: Sequence[str] = COLUMNS,
-        tool: str = "dwg-check",
+        self, options: argparse.Namespace, columns: Sequence[str] = COLUMNS, tool: str = "dwg-check"
     ) -> None:
         self._options, self._columns, self._tool = options, columns, tool
         self.counts: Dict[str, int] = collections.Counter()
@@ -122,32 +115,20 @@ class Table:
         said = json.dumps(as_object(row)) if self._options.json else as_line(row, self._columns)
         return said.encode("utf-8", "backslashreplace") + b"\n"
 
-    def add_all(self, rows: Iterable[Any]) -> None:
-        """Prints lines as they come, and on a terminal how far they are."""
-        progress = Progress(not self._options.quiet)
+    def add_all(self, rows: Iterable[Any]) -> "Table":
+        """Prints lines as they come."""
         for row in rows:
-            progress.clear()
             self.add(row)
-            progress.count()
-        progress.clear()
+        return self
 
-    def ended(self, nothing: str) -> int:
+    def ended(self, nothing: str, more: str = "") -> int:
         """Tells how many files are what, or that nothing is found; the status of the worst."""
         by_count = sorted(self.counts.items(), key=lambda one: -one[1])
         said = ", ".join(f"{count} {verdict}" for verdict, count in by_count)
         count = sum(self.counts.values())
         if not self._options.quiet and count:
-            tell(self._tool, f"{count} file{'' if count == 1 else 's'}: {said}")
+            tell(f"{count} file{'' if count == 1 else 's'}: {said}{more}", self._tool)
         if not count:
-            tell(self._tool, nothing)
+            tell(nothing, self._tool)
             return Exit.NOTHING_FOUND
         return max(VERDICTS.get(verdict, Exit.WELL) for verdict in self.counts)
-
-
-def print_all(
-    rows: Iterable[Any], options: argparse.Namespace, columns: Sequence[str] = COLUMNS
-) -> Table:
-    """Prints a table of rows as they come."""
-    shown_rows = Table(options, columns)
-    shown_rows.add_all(rows)
-    return shown_rows

@@ -9,18 +9,11 @@ from typing import Container, Optional, Tuple
 
 from ..files import Changed, Content, Named, is_called_drawing, opened
 from ..notes import Kept, Refusal, TooLarge, last_note, read_note
-from ..program import Answer, Program, ProgramFailed
+from ..program import Answer, Program, ProgramFailed, failed_with
 from ..statuses import Status
 from . import looks
-from .header import (
-    LIMIT,
-    OURS,
-    VERSIONS,
-    end_of_drawing,
-    has_header,
-    preview_of,
-    version_of_rest,
-)
+from .header import LIMIT, OURS, VERSIONS, end_of_drawing, has_header, preview_of
+from .header import version_of_rest
 from .table import Row
 
 # The number of the rules by which a content gets its verdict. Who changes them raises it: what a
@@ -59,14 +52,8 @@ class Checker:
                 content.refuse_changed()
         except ProgramFailed as fault:
             return _unfound(row, "failed", fault.why, fault.is_lasting)
-        except Changed as fault:
-            return _unfound(row, "failed", str(fault.strerror))
-        except (OSError, ValueError) as fault:
-            is_short = getattr(fault, "errno", None) in OF_SYSTEM
-            why = str(getattr(fault, "strerror", None) or fault)
-            return _unfound(row, "failed" if is_short else "unreadable", why)
-        except MemoryError:
-            return _unfound(row, "failed", "no memory")
+        except (OSError, ValueError, MemoryError) as fault:
+            return _unfound(row, *unread(fault))
         return row
 
     def found(self, content: Content, row: Row) -> None:
@@ -89,14 +76,11 @@ class Checker:
         """Finds the verdict by how the file begins."""
         prefix = content.head(PREFIX)
         first = prefix[:6]
-        is_versioned = VERSION.fullmatch(first) and (
-            len(prefix) == 6 or not looks.is_text(prefix)
-        )
-        if is_versioned:
-            row.version = first.decode()
-        if not is_versioned:
+        if not VERSION.fullmatch(first) or len(prefix) > 6 and looks.is_text(prefix):
             self._judge_other(content, row, prefix)
-        elif first not in OURS:
+            return
+        row.version = first.decode()
+        if first not in OURS:
             self._judge_version(content, row, prefix)
         elif content.size > LIMIT:
             row.verdict, row.detail = "too large", TOO_LARGE
@@ -192,16 +176,23 @@ class Checker:
         elif status == Status.READ_FAULT:
             row.verdict, row.detail = "unreadable", "read fault"
         else:
-            raise _failed_with(status, "audit")
+            raise failed_with(status, "audit")
+
+
+def unread(fault: Exception) -> Tuple[str, str]:
+    """The verdict of a file that can't be read to its end, and why."""
+    if isinstance(fault, MemoryError):
+        return "failed", "no memory"
+    is_failed = isinstance(fault, Changed) or getattr(fault, "errno", None) in OF_SYSTEM
+    why = getattr(fault, "strerror", None) or fault
+    return "failed" if is_failed else "unreadable", str(why)
 
 
 def _unfound(row: Row, verdict: str, why: str, is_lasting: bool = False) -> Row:
     """The row of a file of which no verdict is found. What of it lasts has its SHA-256."""
-    sha256 = row.sha256 if is_lasting else None
-    size, time = row.bytes, row.mtime_ns
-    return Row(
-        row.path, verdict, why, bytes=size, mtime_ns=time, sha256=sha256, is_lasting=is_lasting
-    )
+    found = Row(row.path, verdict, why, bytes=row.bytes, mtime_ns=row.mtime_ns)
+    found.sha256, found.is_lasting = row.sha256 if is_lasting else None, is_lasting
+    return found
 
 
 def _without_header(row: Row, why: str) -> None:
@@ -226,11 +217,6 @@ def _kept_by(answer: Answer) -> Optional[str]:
     if answer.status == Status.TOO_LARGE and isinstance(last, TooLarge):
         return f"what recover keeps would have {last.size} bytes"
     if answer.status not in (Status.DONE, Status.FOUND):
-        raise _failed_with(answer.status, "recover")
-    return f"recover keeps {last.count} objects" if isinstance(last, Kept) and last.count else None
-
-
-def _failed_with(status: int, command: str) -> ProgramFailed:
-    """Why a command has no answer, by a status that says nothing of what it read."""
-    is_memory = status == Status.NO_MEMORY
-    return ProgramFailed("no memory" if is_memory else f"status {status} for `{command}`")
+        raise failed_with(answer.status, "recover")
+    count = last.objects if isinstance(last, Kept) else 0
+    return f"recover keeps {count} objects" if count else None

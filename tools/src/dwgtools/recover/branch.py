@@ -8,7 +8,7 @@ import json
 import os
 import stat
 from dataclasses import asdict, dataclass, field
-from typing import IO, Any, Callable, Dict, NamedTuple, Optional
+from typing import IO, Callable, Dict, NamedTuple, Optional
 
 from ..archive.store import Output
 from ..atomic import begun, finish, place
@@ -23,13 +23,11 @@ from .one import NOTES, audit_back, place_both, recover_into
 # What is told of drawings of which nothing is lost.
 WHOLE = ("sound", "unsound", "trailing bytes")
 
-# What a file ends with, by what becomes of it; others write nothing.
+# What a file ends with, by what becomes of it; others may be damaged, and nothing is written.
 STATUS = {
-    **dict.fromkeys(WHOLE, int(Exit.WELL)),
-    "recovered": int(Exit.FOUND),
-    "refused": int(Exit.WORDS),
-    "failed": int(Exit.FAILURE),
-}
+    **dict.fromkeys(WHOLE, int(Exit.WELL)), "refused": int(Exit.WORDS), "failed": int(Exit.FAILURE),
+    **dict.fromkeys(("recovered", "no drawing", "other version"), int(Exit.FOUND)),
+}  # fmt: skip
 
 # What becomes of a file that nothing is written of, by the status that it would have alone.
 OUTCOMES = {int(Exit.WORDS): "refused", int(Exit.DAMAGED): "too large"}
@@ -41,36 +39,24 @@ STORE, PASSING = OWN + "db", OWN + "tmp"
 
 
 @dataclass
-class Line:
-    """A line of the table. Of a drawing that was recovered it tells how many objects were kept,
-    lost (where all entries of the map are known) and found without an entry, and findings of the
-    new one; else it tells what dwg-check says."""
+class Line(Row):
+    """A line of the table: what dwg-check says. Of a drawing that was recovered it tells how many
+    objects were kept, lost (where all entries of the map are known) and found without an entry,
+    and findings of the new one."""
 
-    path: str
-    outcome: str
-    detail: str = ""
+    outcome: str = ""
     kept: Optional[int] = None
     lost: Optional[int] = None
     found: Optional[int] = None
-    findings: Optional[int] = None
     status: int = 0
     output: Optional[str] = None
     lost_parts: Dict[str, int] = field(default_factory=dict)
-    verdict: str = ""
-    version: str = ""
-    bytes: Optional[int] = None
-    refusal: Optional[Dict[str, Any]] = None
-    sha256: Optional[str] = None
 
     def end(self, outcome: str, more: str = "") -> "Line":
-        """Says what became of the file."""
+        """Says what became of the file, and more in its detail."""
         self.outcome, self.status = outcome, STATUS.get(outcome, int(Exit.DAMAGED))
-        self.say(more)
-        return self
-
-    def say(self, more: str) -> None:
-        """Adds to the detail."""
         self.detail = "; ".join(filter(None, [self.detail, more]))
+        return self
 
 
 class Made(NamedTuple):
@@ -100,11 +86,6 @@ class Planned(NamedTuple):
         return Made() if self.known is None else Made(*json.loads(self.known.told)["made"])
 
 
-def refused(message: str) -> ToolError:
-    """Why what stands isn't replaced."""
-    return ToolError(message, Exit.WORDS)
-
-
 @dataclass(frozen=True)
 class Tree:
     """A folder that drawings are recovered into. It may be sent to another process."""
@@ -115,27 +96,22 @@ class Tree:
     is_copying: bool = False
     is_forced: bool = False
 
-    @property
-    def passing(self) -> str:
-        """The folder that outputs stand in until they take their names."""
-        return os.path.join(self.out, PASSING)
-
     def done(self, planned: Planned) -> Done:
         """What becomes of a file: whatever happens, there is a line."""
         name, path = planned.name, planned.named.path
         if name.startswith(OWN):
-            return Done(Line(path, "").end("refused", "dwg-recover has files of its own so called"))
+            return Done(Line(path).end("refused", "dwg-recover has files of its own so called"))
         if name.endswith(NOTES) and os.path.lexists(path[: -len(NOTES)]):
-            return Done(Line(path, "").end("refused", "its name is that of the notes of another"))
+            return Done(Line(path).end("refused", "its name is that of the notes of another"))
         try:
             return Branch(self, planned).done()
         except Exception as fault:  # pylint: disable=broad-except
             why = f"failure of the tool itself: {type(fault).__name__}: {fault}"
-            return Done(Line(path, "").end("failed", why))
+            return Done(Line(path).end("failed", why))
 
     def lost(self, planned: Planned) -> Done:
         """The line of a file by which a process ended."""
-        return Done(Line(planned.named.path, "").end("failed", "no memory"))
+        return Done(Line(planned.named.path).end("failed", "no memory"))
 
 
 class Branch(Checker):
@@ -145,39 +121,37 @@ class Branch(Checker):
         super().__init__(tree.program)
         self.tree, self.planned = tree, planned
         self.out = os.path.join(tree.out, planned.name)
-        self.notes = self.out + NOTES
+        self.notes, self.passing = self.out + NOTES, os.path.join(tree.out, PASSING)
         self._done: Optional[Done] = None
 
     def done(self) -> Done:
         """The line of the file. It tells what stands of another state of the file too."""
         row = self.row_of(self.planned.named)
-        done = self._done or Done(_line_of(row))
+        done = self._done or Done(Line(**vars(row)).end(row.verdict))
         line = done.line
         if not line.output and line.outcome != "refused" and os.path.lexists(self.out):
-            line.say(f"{shown(self.out)} stands from before")
+            line.end(line.outcome, f"{shown(self.out)} stands from before")
         return done
 
     def found(self, content: Content, row: Row) -> None:
         digest, known = content.digest(), self.planned.known
         if known is not None and self._stands(known, digest):
             line = Line(**json.loads(known.told)["line"])
-            line.path = row.path
+            line.path, line.mtime_ns = row.path, row.mtime_ns
             line.output = utf8_name(self.out) if self.planned.made.output else None
             self._done = Done(line)
             return
         super().found(content, row)
         row.sha256 = digest
         content.refuse_changed()
-        line, made = _line_of(row), Made()
+        line, made = Line(**vars(row)).end(row.verdict), Made()
         if row.verdict == "damaged":
             made = self._told(line, lambda: self._recover(content, line))
         elif row.verdict in WHOLE and self.tree.is_copying:
             made = self._told(line, lambda: self._copy(content, line))
         is_kept = line.outcome not in ("refused", "failed")
-        if is_kept and (made.output or not self.planned.made.output):
-            self._done = Done(line, self._kept(line, made))
-        else:
-            self._done = Done(line)
+        is_kept = is_kept and bool(made.output or not self.planned.made.output)
+        self._done = Done(line, self._kept(line, made) if is_kept else None)
 
     def _stands(self, known: Output, digest: str) -> bool:
         """Whether a run did all that is to be done of this content."""
@@ -212,7 +186,7 @@ class Branch(Checker):
 
     def _recover(self, content: Content, line: Line) -> Made:
         """Writes what is whole of a damaged drawing, and its notes, unless that stands."""
-        with begun(self.tree.passing) as whole, begun(self.tree.passing) as notes:
+        with begun(self.passing) as whole, begun(self.passing) as notes:
             told = recover_into(self.program, content, whole, notes)
             if told.refusal is None:
                 raise ProgramFailed("`recover` and `audit` don't agree")
@@ -231,18 +205,13 @@ class Branch(Checker):
     def _copy(self, content: Content, line: Line) -> Made:
         """Writes a whole drawing as it is, with its times, unless it stands."""
         made = Made(line.sha256 or "")
-        with begun(self.tree.passing) as whole:
+        with begun(self.passing) as whole:
             whole.write(content.data)
-            self._place(content, line, made, whole)
+            self._place(content, line, made, whole, None)
         return made
 
     def _place(
-        self,
-        content: Content,
-        line: Line,
-        made: Made,
-        whole: IO[bytes],
-        notes: Optional[IO[bytes]] = None,
+        self, content: Content, line: Line, made: Made, whole: IO[bytes], notes: Optional[IO[bytes]]
     ) -> None:
         """Gives what is written its name, unless that stands."""
         stands = self._standing(content, line, made)
@@ -250,20 +219,16 @@ class Branch(Checker):
             return
         content.refuse_changed()
         self._make_folder()
-        source = self._state(content)
+        source = os.fstat(content.file.fileno())
         if notes is not None:
-            place_both(whole, notes, self.out, any(stands), [source], source)
+            place_both(whole, notes, self.out, any(stands), source)
             return
         finish(whole, source)
         os.utime(whole.fileno(), ns=(source.st_atime_ns, source.st_mtime_ns))
         if stands.notes and stands.notes == self.planned.made.notes:
             # (they are of what was recovered, which this replaces)
             os.unlink(self.notes)
-        place(whole.name, self.out, any(stands), [source])
-
-    @staticmethod
-    def _state(content: Content) -> os.stat_result:
-        return os.fstat(content.file.fileno())
+        place(whole.name, self.out, any(stands), source)
 
     def _standing(self, content: Content, line: Line, new: Made) -> Made:
         """The SHA-256 of what stands, of output and notes; it is refused where that may not be
@@ -271,12 +236,15 @@ class Branch(Checker):
         found = []
         for path, to_be, left in zip((self.out, self.notes), new, self.planned.made):
             digest = digest_at(path)
-            if digest and os.path.samestat(os.lstat(path), self._state(content)):
-                raise refused(f"{shown(path)} is the input itself")
-            if digest is None and to_be:
-                raise refused(f"{shown(path)} is no regular file")
-            if digest and to_be and digest != to_be and not self.tree.is_forced:
-                raise refused(f"{shown(path)} {self._why(line, digest == left)}")
+            why = ""
+            if digest and os.path.samestat(os.lstat(path), os.fstat(content.file.fileno())):
+                why = "is the input itself"
+            elif digest is None and to_be:
+                why = "is no regular file"
+            elif digest and to_be and digest != to_be and not self.tree.is_forced:
+                why = self._why(line, digest == left)
+            if why:
+                raise ToolError(f"{shown(path)} {why}", Exit.WORDS)
             found.append(digest or "")
         return Made(*found)
 
@@ -301,15 +269,7 @@ class Branch(Checker):
                 os.mkdir(out, stat.S_IMODE(own.st_mode) & 0o777 | stat.S_IRWXU)
             told = os.lstat(out)
             if not stat.S_ISDIR(told.st_mode) or os.path.samestat(told, own):
-                raise refused(f"{shown(out)} is no folder of its own")
-
-
-def _line_of(row: Row) -> Line:
-    """The line of a file as dwg-check found it."""
-    line = Line(row.path, row.verdict, row.detail, findings=row.findings, verdict=row.verdict)
-    line.version, line.bytes, line.sha256 = row.version, row.bytes, row.sha256
-    line.refusal = asdict(row.refusal) if row.refusal else None
-    return line.end(row.verdict)
+                raise ToolError(f"{shown(out)} is no folder of its own", Exit.WORDS)
 
 
 def _losses(told: Recovery) -> str:

@@ -7,7 +7,7 @@ import itertools
 import sys
 
 from .. import files
-from ..cli import add_jobs, add_program
+from ..cli import add_jobs
 
 DESCRIPTION = """\
 Writes to OUT the canonical file of all that is whole in the drawing IN, and beside it the notes of
@@ -20,7 +20,8 @@ prints a line a file, and goes on where a run was cut off."""
 ENDING = """\
 The status is 0 where nothing was lost, 1 where something was, 2 where the words aren't understood
 or an output is refused, 3 where nothing was recovered, 66 where no file was found, 70 after a
-failure, 130 when interrupted. That of a tree is the greatest of its files."""
+failure, 130 when interrupted. That of a tree is the greatest of its files; what is no drawing, or
+of another version, counts as 1."""
 
 USAGE = """%(prog)s [--force] [--json] [--program PATH] IN OUT
        %(prog)s --tree OUT [--whole skip|copy] [--all | --ext EXT[,EXT..]] [--exclude PATTERN]
@@ -39,16 +40,13 @@ def add_words(parser: argparse.ArgumentParser) -> None:
         parser.add_argument("out", metavar="OUT", help="the file to write; - is standard output")
     parser.add_argument("--force", action="store_true", help="replace outputs that stand already")
     parser.add_argument("--json", action="store_true", help="print JSON, an object a line")
-    add_program(parser)
     parser.add_argument("--tree", metavar="OUT", help="recover the drawings of FOLDER into OUT")
     if is_tree or {"-h", "--help"} & set(words):
         parser.add_argument(
-            "--whole",
-            choices=("skip", "copy"),
-            default="skip",
+            "--whole", choices=("skip", "copy"), default="skip",
             help="of a tree leave out drawings of which nothing is lost (else), or copy them",
-        )
-        parser.add_argument("--quiet", action="store_true", help="no progress and no counts")
+        )  # fmt: skip
+        parser.add_argument("--quiet", action="store_true", help="no counts")
         add_jobs(parser)
         files.add_words(parser, is_followed=False)
         parser.set_defaults(print0=False, only=None)
@@ -56,10 +54,7 @@ def add_words(parser: argparse.ArgumentParser) -> None:
 
 def run(options: argparse.Namespace) -> int:
     """Recovers what the words name."""
-    if options.tree is None:
-        from .one import recover_one
-
-        return recover_one(options)
+    from .one import recover_one
     from .tree import recover_tree
 
-    return recover_tree(options)
+    return recover_one(options) if options.tree is None else recover_tree(options)

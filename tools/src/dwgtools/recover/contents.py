@@ -1,22 +1,19 @@
-"""What a recovered drawing has, by its text of `show`: kinds, layers, and where chains break.
+"""What a recovered drawing has, by its text of `show`: kinds and layers.
 
 The text, which may have gigabytes, is read line by line; numbers by handle alone are kept of it.
 """
 
 from __future__ import annotations
 
-import bisect
 from array import array
 from collections import Counter
 from dataclasses import dataclass, field
-from typing import Dict, Iterable, Iterator, Set, Tuple
+from typing import Dict, Iterable
 
-from ..show import Object, Text
+from ..show import Object, Text, place_in
 
-# The kinds of entities that never stand in the chain of a block.
-NO_MEMBERS = {"BLOCK", "ENDBLK", "ATTRIB"}
 # The fields that are read.
-WANTED = (b"mode", b"owner", b"links.next", b"layer", b"entry.name", b"ends.last")
+WANTED = (b"mode", b"layer", b"entry.name")
 
 # What a type number is called where its kind is only ENTITY or OBJECT. The names are those of the
 # Open Design Specification.
@@ -33,30 +30,19 @@ TYPE_NAMES = {
 }  # fmt: skip
 
 
-def _numbers() -> "array[int]":
-    return array("Q")
-
-
 @dataclass
 class Contents:
-    """How many objects of which kind a drawing has, and entities on which layer; and of each that
-    may stand in the chain of a block what follows it, and its owner, 0 for a space."""
+    """How many objects of which kind a drawing has, and entities on which layer."""
 
     kinds: "Counter[str]" = field(default_factory=Counter)
     raw: int = 0
-    handles: "array[int]" = field(default_factory=_numbers)
+    handles: "array[int]" = field(default_factory=lambda: array("Q"))
     layer_names: Dict[int, str] = field(default_factory=dict)
     by_layer: "Counter[int]" = field(default_factory=Counter)
-    members: "array[int]" = field(default_factory=_numbers)
-    nexts: "array[int]" = field(default_factory=_numbers)
-    owners: "array[int]" = field(default_factory=_numbers)
-    blocks: Set[int] = field(default_factory=lambda: {0})
-    lasts: Set[int] = field(default_factory=set)
 
     def has(self, handle: int) -> bool:
         """Whether the drawing has an object of a handle."""
-        at = bisect.bisect_left(self.handles, handle)
-        return at < len(self.handles) and self.handles[at] == handle
+        return place_in(self.handles, handle) is not None
 
     @property
     def layers(self) -> Dict[str, int]:
@@ -66,12 +52,6 @@ class Contents:
             why = "which has no name" if self.has(layer) else "which isn't there"
             counts[self.layer_names.get(layer, f"(layer {layer:X}, {why})")] += count
         return ordered(counts)
-
-    def breaks(self) -> Iterator[Tuple[int, int]]:
-        """Where chains break: after which entity, and what is to follow and isn't there."""
-        for one, target, owner in zip(self.members, self.nexts, self.owners):
-            if target and owner in self.blocks and one not in self.lasts and not self.has(target):
-                yield one, target
 
 
 def ordered(counts: "Counter[str]") -> Dict[str, int]:
@@ -87,25 +67,10 @@ def contents_of(lines: Iterable[bytes]) -> Contents:
         found.raw += one.form == "raw"
         found.kinds[_kind_of(one, text)] += 1
         if b"mode" in one.fields:
-            _take_entity(found, one)
+            found.by_layer[one.target(b"layer")] += 1
         elif one.kind == "LAYER" and one.form == "typed":
             found.layer_names[one.handle] = text.value(one, b"entry.name")
-        elif one.kind == "BLOCK HEADER" and one.form == "typed":
-            found.blocks.add(one.handle)
-            found.lasts.add(one.target(b"ends.last"))
     return found
-
-
-def _take_entity(found: Contents, one: Object) -> None:
-    """Takes of an entity its layer, and of one that may stand in a chain what follows it."""
-    found.by_layer[one.target(b"layer")] += 1
-    if one.kind in NO_MEMBERS:
-        return
-    # An entity without links is followed by the handle after its own; by its mode it is in a space.
-    has_links = b"links.next" in one.fields
-    found.members.append(one.handle)
-    found.nexts.append(one.target(b"links.next") if has_links else one.handle + 1)
-    found.owners.append(one.target(b"owner") if one.fields[b"mode"] == b"0" else 0)
 
 
 def _kind_of(one: Object, text: Text) -> str:

@@ -5,7 +5,7 @@ from __future__ import annotations
 import os
 from typing import IO, Dict, Iterator, Optional
 
-from ..check.header import pages_of_map, sections_of
+from ..check.header import pages_of_map
 from ..notes import Found, Kept, Loss, Note, Refusal, read_note
 from ..program import ProgramFailed
 
@@ -43,7 +43,7 @@ class Recovery:
         elif isinstance(value, Found):
             self.found += 1
         elif isinstance(value, Kept):
-            self.kept = value.count
+            self.kept = value.objects
         else:
             raise ProgramFailed(f"no note of `recover`: {value}")
 
@@ -57,8 +57,7 @@ class Recovery:
         word has one that isn't spelled, after which none is taken: so their steps are counted."""
         if self.refusal is None or any(self.lost[sort] for sort in MAPPING):
             return self.refusal is None
-        place = {number: place for number, place, _ in sections_of(data).locators}[2]
-        pages = [data[begin + 2 : end] for begin, end in pages_of_map(data, place)]
+        pages = [data[begin + 2 : end] for begin, end in pages_of_map(data)]
         steps = sum(len(page.translate(None, _INNER)) for page in pages)
         return steps == 2 * self.entries and not any(page[-1:] > b"\x7f" for page in pages)
 

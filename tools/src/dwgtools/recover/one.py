@@ -5,19 +5,19 @@ from __future__ import annotations
 import argparse
 import contextlib
 import os
-import stat
 import sys
 import tempfile
-from typing import IO, Callable, Dict, Iterable, Iterator, Optional, Sequence, TextIO, Tuple
+from typing import IO, Callable, Iterator, Optional, Tuple
 
 from ..atomic import begun, finish, place, refuse_output
-from ..check.header import LIMIT, MOST_HEADER, OURS, VERSIONS, version_of_rest
+from ..check.header import LIMIT, MOST_HEADER, OURS, version_of_rest
+from ..cli import printed
 from ..files import Content, one_line, opened, shown, utf8_name
-from ..program import Program, ProgramFailed, find_program
+from ..program import Program, ProgramFailed, failed_with
 from ..statuses import Exit, Status, ToolError
 from .contents import Contents, contents_of
 from .notes import Recovery
-from .words import Audit, ReadAs, Report, as_json, audited, lines_of
+from .words import Audit, Report, as_json, audited, lines_of
 
 # What the name of notes ends with.
 NOTES = ".notes"
@@ -34,38 +34,28 @@ def recover_one(options: argparse.Namespace) -> int:
     with told_of(name, out):
         state = os.fstat(0) if options.source == "-" else os.stat(options.source)
     # (before anything is read, which may take its time)
-    refuse_outputs(out, options.force, [state])
-    program = Program(find_program(options.program))
-    program.prepare()
+    for path in () if out is None else (out, out + NOTES):
+        refuse_output(path, options.force, state)
+    program = Program(options.program)
     with told_of(name, out):
         content = opened(options.source, LIMIT)
-    with content.file, outputs(out, options.force, [state]) as (whole, notes), told_of(name, out):
+    with content.file, outputs(out, options.force, state) as (whole, notes), told_of(name, out):
         told = recover_into(program, content, whole, notes)
-        read_as = read_as_of(program, content.data, told)
+        is_of_header = told.refusal is not None and told.refusal.part == "header"
+        rest = version_of_rest(program, content.data[:MOST_HEADER]) if is_of_header else None
         if not told.kept and told.refusal is not None:
-            rest = f"the rest of the header is that of {read_as.rest}"
-            more = f" ({rest})" if read_as.rest else ""
+            more = f" (the rest of the header is that of {rest})" if rest else ""
             raise ToolError(f"{told.refusal}{more}: no object is whole", Exit.DAMAGED)
         contents, audit = read_back(program, whole)
         content.refuse_changed()
-    report = Report(name, out and utf8_name(out), read_as, told, contents, audit)
+    first = content.data[:6]
+    version = first.decode() if first in OURS else "AC1015"
+    report = Report(name, out and utf8_name(out), version, rest, told, contents, audit)
     lines = as_json(report) if options.json else (line + "\n" for line in lines_of(report))
     stream = sys.stderr if out is None else sys.stdout
     encoded = (line.encode("utf-8", "backslashreplace") for line in lines)
-    printed(encoded, stream, "the drawing is written")
+    printed(encoded, stream, "; the drawing is written")
     return int(Exit.FOUND if told.refusal is not None else Exit.WELL)
-
-
-def printed(pieces: Iterable[bytes], stream: TextIO, more: str) -> None:
-    """Prints bytes on a standard stream."""
-    try:
-        stream.buffer.writelines(pieces)
-        stream.flush()
-    except BrokenPipeError:
-        raise
-    except OSError as fault:
-        name = "error" if stream is sys.stderr else "output"
-        raise ToolError(f"standard {name}: {fault.strerror}; {more}") from None
 
 
 @contextlib.contextmanager
@@ -90,35 +80,18 @@ def recover_into(
     if answer.status == Status.TOO_LARGE:
         raise ToolError(f"too large: what is whole has more than {LIMIT:,} bytes", Exit.DAMAGED)
     if answer.status not in (Status.DONE, Status.FOUND):
-        why = f"status {answer.status} for `recover`"
-        raise ProgramFailed(FAULTS.get(answer.status, why))
+        raise failed_with(answer.status, "recover")
     told = Recovery(notes, content.data)
     if (told.refusal is None) != (answer.status == Status.DONE):
         raise ProgramFailed(f"the notes of `recover` aren't those of status {answer.status}")
     return told
 
 
-# Why the program writes nothing.
-FAULTS: Dict[int, str] = {
-    Status.WRITE_FAULT: "the output can't be written",
-    Status.NO_MEMORY: "no memory",
-}
-
-
-def read_as_of(program: Program, data: bytes, told: Recovery) -> ReadAs:
-    """By which version a file was read."""
-    first = data[:6]
-    other = f"{first.decode()} ({VERSIONS[first]})" if first in VERSIONS else ""
-    is_of_header = told.refusal is not None and told.refusal.part == "header"
-    rest = version_of_rest(program, data[:MOST_HEADER]) if is_of_header else None
-    return ReadAs(first.decode() if first in OURS else "AC1015", other, rest)
-
-
 def read_back(program: Program, whole: IO[bytes]) -> Tuple[Contents, Audit]:
     """Has the program read what it wrote, before that has a name and replaces anything."""
     with program.lines(["show"], whole) as lines:
         contents = contents_of(lines)
-        refuse_unread(lines.status())
+        lines.refuse_unread()
     return contents, audit_back(program, whole, contents.has)
 
 
@@ -126,25 +99,13 @@ def audit_back(program: Program, whole: IO[bytes], is_there: Callable[[int], boo
     """What `audit` says of what the program wrote, and which handles are there."""
     with program.lines(["audit"], whole) as lines:
         audit = audited(lines, is_there)
-        refuse_unread(lines.status())
+        lines.refuse_unread()
     return audit
-
-
-def refuse_unread(status: int) -> None:
-    """Refuses what the program wrote and doesn't read as a drawing."""
-    if status not in (Status.DONE, Status.FOUND):
-        raise ProgramFailed(f"status {status} for what `recover` wrote")
-
-
-def refuse_outputs(out: Optional[str], is_forced: bool, inputs: Sequence[os.stat_result]) -> None:
-    """Refuses an output or its notes that may not be written."""
-    for path in () if out is None else (out, out + NOTES):
-        refuse_output(path, is_forced, inputs)
 
 
 @contextlib.contextmanager
 def outputs(
-    out: Optional[str], is_forced: bool, inputs: Sequence[os.stat_result]
+    out: Optional[str], is_forced: bool, source: os.stat_result
 ) -> Iterator[Tuple[IO[bytes], IO[bytes]]]:
     """Files for a drawing and its notes, which take their names at the end. Without a name the
     drawing goes to standard output."""
@@ -152,33 +113,26 @@ def outputs(
         with tempfile.TemporaryFile() as whole, tempfile.TemporaryFile() as notes:
             yield whole, notes
             whole.seek(0)
-            printed(iter(lambda: whole.read(1 << 20), b""), sys.stdout, "nothing else is said")
+            printed(iter(lambda: whole.read(1 << 20), b""), more="; nothing else is said")
         return
     folder = os.path.dirname(out) or "."
-    # (a pipe has no permissions that are anybody's wish)
-    source = next((one for one in inputs if stat.S_ISREG(one.st_mode)), None)
     try:
         with begun(folder) as whole, begun(folder) as notes:
             yield whole, notes
-            place_both(whole, notes, out, is_forced, inputs, source)
+            place_both(whole, notes, out, is_forced, source)
     except OSError as fault:
         raise ToolError(f"{shown(out)}: {fault.strerror}") from None
 
 
 def place_both(
-    whole: IO[bytes],
-    notes: IO[bytes],
-    out: str,
-    is_forced: bool,
-    inputs: Sequence[os.stat_result],
-    source: Optional[os.stat_result],
+    whole: IO[bytes], notes: IO[bytes], out: str, is_forced: bool, source: os.stat_result
 ) -> None:
     """Gives a drawing and its notes their names, the notes first: no drawing stands without."""
     finish(notes, source)
     finish(whole, source)
-    place(notes.name, out + NOTES, is_forced, inputs)
+    place(notes.name, out + NOTES, is_forced, source)
     try:
-        place(whole.name, out, is_forced, inputs)
+        place(whole.name, out, is_forced, source)
     except BaseException:
         if not is_forced:
             os.unlink(out + NOTES)

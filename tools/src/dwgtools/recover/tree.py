@@ -18,61 +18,57 @@ from ..archive.store import Store
 from ..check.table import Table
 from ..cli import tell
 from ..files import Named, nothing_found, shown, walk_of, walked
-from ..pool import Progress, in_order
-from ..program import Program, find_program
+from ..pool import in_order
+from ..program import Program
 from ..statuses import Exit, ToolError
-from .branch import PASSING, STORE, Line, Planned, Tree
+from .branch import PASSING, STORE, Done, Line, Planned, Tree
 
 COLUMNS = ("path", "outcome", "detail", "kept", "lost", "found", "findings", "status", "output")
-# What stands for a number that isn't known.
-UNKNOWN = "?"
 
 
 def recover_tree(options: argparse.Namespace) -> int:
     """Recovers the drawings of the folder that the words name."""
     folder, out = options.folder, options.tree
     refuse_folders(folder, out)
-    program = Program(find_program(options.program))
-    program.prepare()
+    program = Program(options.program)
     walk = walk_of(options)
     found = walked(folder, walk)
     first = list(itertools.islice(found, 1))
     if not first:
-        tell("dwg-recover", f"{shown(folder)}: {nothing_found(walk)}")
+        tell(f"{shown(folder)}: {nothing_found(walk)}", "dwg-recover")
         return Exit.NOTHING_FOUND
     tree = Tree(program, program.digest(), out, options.whole == "copy", options.force)
     with _store(folder, out) as store:
         planned = (plan(one, folder, store) for one in itertools.chain(first, found))
-        table, progress = Lines(options), Progress(not options.quiet)
+        all_done = in_order(tree.done, planned, options.jobs, tree.lost)
+        table = Lines(options)
         # (whatever ends this, the processes end before their files go)
-        all_done = (one for one in in_order(tree.done, planned, options.jobs, tree.lost))
         with contextlib.closing(all_done):
-            for done in all_done:
-                if done.output is not None:
-                    store.put_output(done.output)
-                    store.commit_in_time()
-                progress.clear()
-                table.add(done.line)
-                progress.count()
-    progress.clear()
+            table.add_all(kept(done, store) for done in all_done)
     table.ended("")
     return table.worst
 
 
+def kept(done: Done, store: Store) -> Line:
+    """The line of a file; what became of it the store has from now on."""
+    if done.output is not None:
+        store.put_output(done.output)
+        store.commit_in_time()
+    return done.line
+
+
 def refuse_folders(folder: str, out: str) -> None:
     """Refuses a folder that is none, and OUT that is no folder or has what is read."""
-    if not os.path.isdir(folder):
-        raise ToolError(
-            f"{shown(folder)}: no folder; to recover one drawing leave out --tree", Exit.WORDS
-        )
-    if os.path.lexists(out) and not os.path.isdir(out) or not out:
-        raise ToolError(f"{shown(out)}: no folder; name another one", Exit.WORDS)
     read, written = os.path.realpath(folder), os.path.realpath(out)
-    if os.path.commonpath([read, written]) in (read, written):
-        raise ToolError(
-            f"{shown(out)}: {shown(folder)} is in it, or has it; name a folder elsewhere",
-            Exit.WORDS,
-        )
+    if not os.path.isdir(folder):
+        why = f"{shown(folder)}: no folder; to recover one drawing leave out --tree"
+    elif os.path.lexists(out) and not os.path.isdir(out) or not out:
+        why = f"{shown(out)}: no folder; name another one"
+    elif os.path.commonpath([read, written]) in (read, written):
+        why = f"{shown(out)}: {shown(folder)} is in it, or has it; name a folder elsewhere"
+    else:
+        return
+    raise ToolError(why, Exit.WORDS)
 
 
 @contextlib.contextmanager
@@ -81,7 +77,8 @@ def _store(folder: str, out: str) -> Iterator[Store]:
     where an earlier run was killed."""
     os.makedirs(out, stat.S_IMODE(os.stat(folder).st_mode) & 0o777 | stat.S_IRWXU, exist_ok=True)
     passing = os.path.join(out, PASSING)
-    with Store(os.path.join(out, STORE), lambda said: tell("dwg-recover", said)) as store:
+    own = os.path.join(out, STORE)
+    with Store(own, lambda said: tell(said, "dwg-recover"), is_made=True) as store:
         shutil.rmtree(passing, ignore_errors=True)
         os.mkdir(passing, stat.S_IRWXU)
         try:
@@ -110,4 +107,4 @@ class Lines(Table):
     def _line(self, row: Line) -> bytes:
         if row.kept is None or row.lost is not None or self._options.json:
             return super()._line(row)
-        return super()._line(argparse.Namespace(**{**vars(row), "lost": UNKNOWN}))
+        return super()._line(argparse.Namespace(**{**vars(row), "lost": "?"}))

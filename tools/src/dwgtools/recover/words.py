@@ -4,19 +4,16 @@ from __future__ import annotations
 
 import itertools
 import json
-import re
 from collections import Counter
 from dataclasses import dataclass
 from typing import Any, Callable, Dict, Iterable, Iterator, List, Optional
 
+from ..check.findings import findings_in
 from ..files import one_line
-from ..program import ProgramFailed
 from .contents import Contents, ordered
 from .notes import LOSSES, Recovery
 
-# A finding of `audit`: its rule, and what it leads to.
-FINDING = re.compile(rb"finding [0-9A-F]+ (\S+) \S+ \d+ ([0-9A-F]+)\n")
-# How many handles, and how many breaks of chains, are told in words.
+# How many handles are told in words.
 MOST = 10
 
 
@@ -33,37 +30,16 @@ class Audit:
         return sum(self.rules.values())
 
 
-@dataclass(frozen=True)
-class ReadAs:
-    """The version by which a file was read; the other one that it says; that of its rest."""
-
-    version: str
-    other: str = ""
-    rest: Optional[str] = None
-
-    def __str__(self) -> str:
-        """What is to be said of it, or nothing."""
-        if self.rest:
-            return (
-                f"The rest of its header is that of {self.rest}: put {self.rest} in place of its"
-                " first six bytes, and recover it again."
-            )
-        if self.other:
-            return (
-                f"It says that it is of version {self.other}, which dwg doesn't read:"
-                f" what is kept was read as {self.version}."
-            )
-        return ""
-
-
 @dataclass
 class Report:
-    """All that is told of a recovery: from where to where, what was lost, and what is there."""
+    """All that is told of a recovery: from where to where, by which version it was read, of which
+    the rest of a header is whose version is damaged, what was lost, and what is there."""
 
     source: str
     # (None is standard output)
     out: Optional[str]
-    read_as: ReadAs
+    version: str
+    rest: Optional[str]
     told: Recovery
     contents: Contents
     audit: Audit
@@ -73,33 +49,16 @@ class Report:
         """How many objects the recovered drawing has."""
         return len(self.contents.handles)
 
-    @property
-    def found_elsewhere(self) -> Optional[str]:
-        """The section that isn't whole at its place and was found at another, by the refusal."""
-        names = {"variables": "header variables", "classes": "classes"}
-        name = names.get(self.told.refusal.part) if self.told.refusal else None
-        return name if name and not self.told.lost[name] else None
-
 
 def audited(lines: Iterable[bytes], is_there: Callable[[int], bool]) -> Audit:
     """What `audit` says of a drawing."""
     rules: "Counter[str]" = Counter()
-    missing, end = set(), b""
-    for line in lines:
-        words = FINDING.fullmatch(line)
-        if end or not words and not line.startswith(b"audit "):
-            raise ProgramFailed("`audit` prints what is no finding")
-        if not words:
-            end = line
-            continue
-        rule, target = words[1].decode("ascii"), int(words[2], 16)
-        rules[rule] += 1
-        if rule == "resolve" and target and not is_there(target):
-            missing.add(target)
-    audit = Audit(ordered(rules), sorted(missing))
-    if end != (b"audit no %d\n" % audit.findings if audit.findings else b"audit yes\n"):
-        raise ProgramFailed("`audit` doesn't end as it should")
-    return audit
+    missing = set()
+    for one in findings_in(lines):
+        rules[one.rule] += 1
+        if one.rule == "resolve" and one.target and not is_there(one.target):
+            missing.add(one.target)
+    return Audit(ordered(rules), sorted(missing))
 
 
 def number(count: int, one: str, more: str = "") -> str:
@@ -115,18 +74,16 @@ def handles(some: Iterable[int], count: int) -> str:
 
 def lines_of(report: Report) -> Iterator[str]:
     """The report in words."""
-    told, contents = report.told, report.contents
+    told = report.told
     yield _first_line(report)
-    if str(report.read_as):
-        yield str(report.read_as)
-    elif told.refusal is not None and 2 * contents.raw > report.kept:
+    if report.rest:
         yield (
-            f"Of those kept {contents.raw} are raw: they were read as {report.read_as.version},"
-            " which is wrong where the first six bytes are damaged."
+            f"The rest of its header is that of {report.rest}: put {report.rest} in place of its"
+            " first six bytes, and recover it again."
         )
     yield f"Kept {number(report.kept, 'object')}, by kind:"
-    yield from _table(ordered(contents.kinds))
-    layers = contents.layers
+    yield from _table(ordered(report.contents.kinds))
+    layers = report.contents.layers
     if layers:
         yield "Kept entities by layer:"
         names = {name: name if name.startswith("(layer ") else f'"{name}"' for name in layers}
@@ -136,6 +93,12 @@ def lines_of(report: Report) -> Iterator[str]:
         yield from _losses(report)
         yield f"Of those kept, found without an entry of the map: {number(told.found, 'object')}."
     yield from _audit(report)
+
+
+def _table(counts: Dict[str, int]) -> Iterator[str]:
+    """Lines of counts."""
+    width = max((len(str(count)) for count in counts.values()), default=0)
+    return (f"  {count:>{width}}  {one_line(name)}" for name, count in counts.items())
 
 
 def _first_line(report: Report) -> str:
@@ -151,12 +114,6 @@ def _first_line(report: Report) -> str:
     return f"{source} is damaged: {refusal}. What is whole of it is {kept}{notes}."
 
 
-def _table(counts: Dict[str, int]) -> Iterator[str]:
-    """Lines of counts."""
-    width = max((len(str(count)) for count in counts.values()), default=0)
-    return (f"  {count:>{width}}  {one_line(name)}" for name, count in counts.items())
-
-
 def _losses(report: Report) -> Iterator[str]:
     """Lines of what the notes say is lost."""
     told, count = report.told, report.told.lost["object"]
@@ -168,11 +125,6 @@ def _losses(report: Report) -> Iterator[str]:
             "map page": f"page {loss.number} of the map, at {loss.place}",
             "map end": f"the map from {loss.place} on",
         }.get(loss.what, f"the {loss.what}: no such section is whole")
-    if report.found_elsewhere:
-        yield (
-            f"  perhaps the {report.found_elsewhere}: those at their place aren't whole,"
-            " and what was found elsewhere may be of another drawing"
-        )
     lost = (loss.handle or 0 for loss in told.losses("object"))
     named = f": {handles(lost, count)}" if count else ""
     entries = number(told.entries, "entry", "entries")
@@ -186,7 +138,7 @@ def _losses(report: Report) -> Iterator[str]:
 
 
 def _audit(report: Report) -> Iterator[str]:
-    """Lines of what `audit` says of the recovered drawing, and where chains break."""
+    """Lines of what `audit` says of the recovered drawing."""
     audit = report.audit
     if not audit.findings:
         yield "The recovered drawing passes the audit."
@@ -198,41 +150,29 @@ def _audit(report: Report) -> Iterator[str]:
     if missing:
         named = handles(audit.missing, missing)
         yield f"  {number(missing, 'object')} referred to and not there: {named}"
-    breaks = report.contents.breaks()
-    for after, target in itertools.islice(breaks, MOST):
-        yield f"  {after:X} is to be followed by {target:X}, which isn't there"
-    more = sum(1 for _ in breaks)
-    if more:
-        yield f"  and {more} more, which --json tells"
 
 
 def as_json(report: Report) -> Iterator[str]:
     """The report as an object of JSON, in pieces, since there may be millions of losses."""
-    told, contents = report.told, report.contents
-    kept = {"objects": report.kept, "raw": contents.raw}
-    kinds = {"kinds": ordered(contents.kinds), "layers": contents.layers}
+    told, contents, audit = report.told, report.contents, report.audit
+    missing = [f"{handle:X}" for handle in audit.missing]
+    counts = {"kinds": ordered(contents.kinds), "layers": contents.layers}
+    findings = {"sound": not audit.findings, "findings": audit.findings}
     yield _open(
-        schema=1,
-        input=report.source,
+        schema=1, input=report.source, version=report.version, rest_of_header=report.rest,
         output="-" if report.out is None else report.out,
         notes=None if report.out is None else report.out + ".notes",
-        version=report.read_as.other or report.read_as.version,
-        rest_of_header=report.read_as.rest,
-        whole=told.refusal is None,
-        refusal=vars(told.refusal) if told.refusal else None,
-        kept={**kept, **kinds},
-        audit=_audit_as_object(report.audit),
-        breaks=[{"after": f"{after:X}", "target": f"{to:X}"} for after, to in contents.breaks()],
-    )
+        whole=told.refusal is None, refusal=vars(told.refusal) if told.refusal else None,
+        kept={"objects": report.kept, "raw": contents.raw, **counts},
+        audit={**findings, "rules": audit.rules, "missing": missing},
+    )  # fmt: skip
     yield ', "lost": ' + _open(
-        header=bool(told.lost["file header"]),
+        header=bool(told.lost["file header"]), classes=bool(told.lost["classes"]),
         variables=bool(told.lost["header variables"]),
-        classes=bool(told.lost["classes"]),
         sections=[{"number": one.number, "place": one.place} for one in told.losses("section")],
         map_end=next((loss.place for loss in told.losses("map end")), None),
-        map_whole=told.is_map_whole,
-        entries=told.entries if told.refusal else report.kept,
-    )
+        map_whole=told.is_map_whole, entries=told.entries if told.refusal else report.kept,
+    )  # fmt: skip
     pages = ({"index": one.number, "place": one.place} for one in told.losses("map page"))
     yield from _array("pages", pages)
     yield from _array("objects", map(_placed, told.losses("object")))
@@ -257,12 +197,3 @@ def _array(name: str, elements: Iterable[Any]) -> Iterator[str]:
 def _placed(one: Any) -> Dict[str, Any]:
     """An object that the notes tell of."""
     return {"handle": f"{one.handle:X}", "place": one.place}
-
-
-def _audit_as_object(audit: Audit) -> Dict[str, Any]:
-    return {
-        "sound": not audit.findings,
-        "findings": audit.findings,
-        "rules": audit.rules,
-        "missing": [f"{handle:X}" for handle in audit.missing],
-    }
