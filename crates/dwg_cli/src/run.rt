@@ -44,9 +44,12 @@ pub fn run<R: Source, W: Sink, N: Sink>(
     ensures came { IsSettled result → Came (R.left input.old) (R.left input.new) (λ came.
         AnswersTo (words_of words.now) came result (W.taken output.old) (W.taken output.new) (N.taken notes.old) (N.taken notes.new)) }
 
-    // What Done and Found of a command mean of the bytes that the input reports: which drawing they spell, or hold after a certificate.
+    // What Done and Found of a command mean of the bytes that the input reports, and, whatever it reports, of those that came: which
+    // drawing they spell, or hold after a certificate.
     ensures means { IsSettled result → (bytes : List ℕ) → R.left input.old ≡ Some bytes → (command : Command) → command_of (words_of words.now) ≡ Some command →
         Means result command bytes }
+    ensures means_came { IsSettled result → Came (R.left input.old) (R.left input.new) (λ came. (command : Command) → command_of (words_of words.now) ≡ Some command →
+        Means result command came) }
 
     // Usage comes only where the words stand in no line of the command table, or ask for a made drawing of no size that it has; and
     // there it comes, unless the run stopped. That is so whatever the devices report.

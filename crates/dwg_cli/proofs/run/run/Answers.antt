@@ -3,7 +3,7 @@ use Rattle.dwg_commands.specs.Meaning.{Means}
 use Rattle.dwg_commands.specs.declared.status.Status.{Status}
 use Rattle.dwg_commands.proofs.CommandsRead.{read_is_heeded}
 use Rattle.dwg_commands.proofs.Meanings.{answer_means}
-use Rattle.dwg_cli.proofs.Stopping.{settled_is_whole, stopped_is_cut}
+use Rattle.dwg_cli.proofs.Stopping.{settled_is_whole, status_means_of_came, stopped_is_cut}
 use Rattle.dwg_cli.proofs.run.run.Goals as goal
 
 pub returns-in-Ok-clause-stopped : goal.returns-in-Ok-clause-stopped
@@ -18,3 +18,7 @@ returns-in-Ok-clause-means g c =
     λ settled bytes reported command names.
     subst (λ (status : Status). Means status command bytes) (settled_is_whole _ _ _ _ settled c.run_job.ensures.sent)
     (answer_means c.status_laws.ensures.means _ _ _ _ c.in-Ok.ensures.answered c.in-Ok.ensures.came c.in-Ok.ensures.drained bytes reported command names)
+
+pub returns-in-Ok-clause-means_came : goal.returns-in-Ok-clause-means_came
+returns-in-Ok-clause-means_came g c =
+    λ settled. status_means_of_came c.status_laws.ensures.means _ _ _ _ _ (settled_is_whole _ _ _ _ settled c.run_job.ensures.sent) c.in-Ok.ensures.came
