@@ -20,7 +20,7 @@ use Rattle.dwg_commands.specs.Words.{command_of, reading_of}
 use Rattle.dwg_commands.proofs.OutcomeLaws.{DrawingLaws, of_input, passed, refused, first_failing, read_is}
 
 -- the word names its command
-appdata_said : (bytes : List ℕ) → IsInput bytes → said (codes "appdata") bytes ≡ outcome_within Appdata bytes
+pub appdata_said : (bytes : List ℕ) → IsInput bytes → said (codes "appdata") bytes ≡ outcome_within Appdata bytes
 unfolding command_of reading_of READERS row_of
 appdata_said bytes input = of_input Appdata bytes input refl
 

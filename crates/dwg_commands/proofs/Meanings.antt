@@ -23,27 +23,31 @@ use Rattle.dwg_graph.specs.Sound.{IsSound}
 use Rattle.dwg_messages.specs.RecoveryNote.{recovery_note}
 use Rattle.dwg_recover.specs.Recovering.{RecoveredValue, recovered}
 use Rattle.dwg_recover.specs.Reported.{DamagedIsAnswered}
+use Rattle.dwg_sections.specs.HeaderLines.{header_at}
 use Rattle.dwg_text.specs.Notes.{too_large_note, too_long_note}
 use Rattle.dwg_commands.specs.declared.outcome.Outcome.{Outcome}
 use Rattle.dwg_commands.specs.declared.status.Status.{Status}
 use Rattle.dwg_commands.specs.declared.status.Status.TheVariants.{Done, Found, Refused, TooLarge, TooLong}
 use Rattle.dwg_commands.specs.declared.words.Command.{Command}
-use Rattle.dwg_commands.specs.declared.words.Command.TheVariants.{Show, Rewrite, Audit, Recover, Appdata, Certify, Accept, Carry}
+use Rattle.dwg_commands.specs.declared.words.Command.TheVariants.{Sections, Classes, Show, Rewrite, Audit, Recover, Appdata, Certify, Accept, Carry}
 use Rattle.dwg_commands.specs.Answered.{filed, filed_with, noted}
 use Rattle.dwg_commands.specs.Commands.{lines_of, reads, row_of}
 use Rattle.dwg_commands.specs.Outcome.{outcome, outcome_of, outcome_within}
-use Rattle.dwg_commands.specs.OutcomeLaws.{AcceptReportsAccepted, AuditReportsSound, IsInput, RecoverRewritesDrawing, RewriteReportsSize, RewriteWritesDrawing, Rewrites, SoundIsCertified, UnsoundIsNoted, said}
-use Rattle.dwg_commands.specs.Meaning.{AcceptedIsAudited, CertifyEndsAsAudit, HoldsAccepted, Means, MeansDone, MeansFound, RecoverDoneIsSpelled, SpellsSome, SpellsSound, SpellsUnsound, StatusesMean}
+use Rattle.dwg_commands.specs.OutcomeLaws.{AcceptReportsAccepted, AppdataReportsItems, AuditReportsSound, IsInput, RecoverRewritesDrawing, ReportsAccepted, RewriteReportsSize, RewriteWritesDrawing, Rewrites, SoundIsCertified, SpellsNone, UnsoundIsNoted, said}
+use Rattle.dwg_commands.specs.Meaning.{AcceptedIsAudited, CertifyEndsAsAudit, HoldsAccepted, HoldsOther, Means, MeansDone, MeansFound, RecoverDoneIsSpelled, SpellsSome, SpellsSound, SpellsUnsound, StatusesMean}
 use Rattle.dwg_commands.specs.Run.{Feeds, IsDrained, IsDrainedSource}
 use Rattle.dwg_commands.specs.Words.{IsReading, command_of}
 use Rattle.dwg_commands.proofs.CertificateLaws.{FormLaws, accept_said, certify_said, input_after, tried_there}
 use Rattle.dwg_commands.proofs.CertificateOutcomes.{AcceptanceLaws, accepted_where_sound}
 use Rattle.dwg_commands.proofs.Faults.{refused_first}
+use Rattle.dwg_commands.proofs.ItemLaws.{appdata_said}
 use Rattle.dwg_commands.proofs.OutcomeLaws.{DrawingLaws, audit_said, damaged_is, of_input, recover_is, recover_said, refused}
 use Rattle.dwg_commands.proofs.Outcomes.{outcome_of_many, outcome_of_reading}
+use Rattle.dwg_commands.proofs.SectionLemmas.{PartLaws, passing_has_classes}
 
 -- what is known of the answers
 pub record AnswerLaws : Type 0 where
+  pub parts : PartLaws
   pub drawings : DrawingLaws
   pub auditable : ValidIsAuditable
   pub acceptance : AcceptanceLaws
@@ -56,6 +60,7 @@ pub record AnswerLaws : Type 0 where
   pub certify : SoundIsCertified
   pub unsound : UnsoundIsNoted
   pub accept : AcceptReportsAccepted
+  pub items : AppdataReportsItems
 
 -- statuses differ
 done_is_not_found : Done ≡ Found → ⊥
@@ -151,35 +156,80 @@ audit_found_means laws bytes input found =
     let spelled = spelled_where laws.drawings Audit bytes Found refl input found_is_answered (sym (ap (λ (a : Outcome). a.status) (audit_said bytes input)) ∙ found) in
     (drawing_at bytes, spelled, λ sound. done_is_not_found (sym ((laws.audit (drawing_at bytes) bytes input spelled).sound.1 sound) ∙ found))
 
--- what `accept` does
-accept_done_means : AnswerLaws → (bytes : List ℕ) → IsInput bytes → (said (codes "accept") bytes).status ≡ Done → HoldsAccepted bytes
-accept_done_means laws bytes input done = of_first (first_fault CERTIFICATE_LINES bytes) refl
+-- what `accept` reads of an input that it doesn't refuse, and that it reports of that
+record IsRead (bytes : List ℕ) : Type 0 where
+  cert : List Entry
+  rest : List ℕ
+  drawing : Contents
+  begins : BeginsWithCertificate bytes cert rest
+  spelled : Spelled drawing rest
+  reports : ReportsAccepted drawing cert (said (codes "accept") bytes)
+
+accept_reads : AnswerLaws → (bytes : List ℕ) (status : Status) → IsInput bytes → IsAnswered status → (said (codes "accept") bytes).status ≡ status → IsRead bytes
+accept_reads laws bytes status input answered ends = of_first (first_fault CERTIFICATE_LINES bytes) refl
   where
     passes : first_fault (lines_of Accept) bytes ≡ None
-    passes = no_line_fails Accept bytes Done done_is_answered (sym (ap (λ (a : Outcome). a.status) (accept_said bytes input)) ∙ done)
+    passes = no_line_fails Accept bytes status answered (sym (ap (λ (a : Outcome). a.status) (accept_said bytes input)) ∙ ends)
 
     differ : (refusal : Refusal) → first_fault (lines_of Accept) bytes ≡ Some refusal → ⊥
     differ refusal fails = let both : None ≡ Some refusal = sym passes ∙ fails in absurd cc
 
-    of_begun : (cert : List Entry) (rest : List ℕ) → BeginsWithCertificate bytes cert rest → HoldsAccepted bytes
+    of_begun : (cert : List Entry) (rest : List ℕ) → BeginsWithCertificate bytes cert rest → IsRead bytes
     of_begun cert rest begins =
         let spelled = laws.drawings.spelled rest (input_after bytes cert rest input begins).are (sym (tried_there laws.forms bytes cert rest begins) ∙ passes) in
-        let reports = laws.accept bytes cert (drawing_at rest) rest input begins spelled in
         record {
           cert = cert;
           rest = rest;
           drawing = drawing_at rest;
           begins = begins;
           spelled = spelled;
-          accepts = reports.accepted.0 done;
-          sound = reports.sound done;
+          reports = laws.accept bytes cert (drawing_at rest) rest input begins spelled;
         }
 
-    of_first : (first : Option Refusal) → first_fault CERTIFICATE_LINES bytes ≡ first → HoldsAccepted bytes
+    of_first : (first : Option Refusal) → first_fault CERTIFICATE_LINES bytes ≡ first → IsRead bytes
     of_first (Some refusal) is = absurd (differ refusal (refused_first bytes refusal is))
     of_first None is =
         let has : HasCertificate bytes = (laws.forms.exact bytes input.are).0 is in
         of_begun has.0 has.1 has.2
+
+-- what `accept` means
+accept_done_means : AnswerLaws → (bytes : List ℕ) → IsInput bytes → (said (codes "accept") bytes).status ≡ Done → HoldsAccepted bytes
+accept_done_means laws bytes input done =
+    let read = accept_reads laws bytes Done input done_is_answered done in
+    record {
+      cert = read.cert;
+      rest = read.rest;
+      drawing = read.drawing;
+      begins = read.begins;
+      spelled = read.spelled;
+      accepts = read.reports.accepted.0 done;
+      sound = read.reports.sound done;
+    }
+
+accept_found_means : AnswerLaws → (bytes : List ℕ) → IsInput bytes → (said (codes "accept") bytes).status ≡ Found → HoldsOther bytes
+accept_found_means laws bytes input found =
+    let read = accept_reads laws bytes Found input found_is_answered found in
+    record {
+      cert = read.cert;
+      rest = read.rest;
+      drawing = read.drawing;
+      begins = read.begins;
+      spelled = read.spelled;
+      differs = λ accepts. done_is_not_found (sym (read.reports.accepted.1 accepts) ∙ found);
+    }
+
+-- what `appdata` means
+appdata_done_means : AnswerLaws → (bytes : List ℕ) → IsInput bytes → (said (codes "appdata") bytes).status ≡ Done → MeansDone Appdata bytes
+unfolding row_of
+appdata_done_means laws bytes input done =
+    let spelled = spelled_where laws.drawings Appdata bytes Done refl input done_is_answered (sym (ap (λ (a : Outcome). a.status) (appdata_said bytes input)) ∙ done) in
+    (drawing_at bytes, spelled, (laws.items (drawing_at bytes) bytes input spelled).met.0 done)
+
+appdata_found_means : AnswerLaws → (bytes : List ℕ) → IsInput bytes → (said (codes "appdata") bytes).status ≡ Found → MeansFound Appdata bytes
+unfolding row_of
+appdata_found_means laws bytes input found =
+    let spelled = spelled_where laws.drawings Appdata bytes Found refl input found_is_answered (sym (ap (λ (a : Outcome). a.status) (appdata_said bytes input)) ∙ found) in
+    (drawing_at bytes, spelled, λ met. done_is_not_found (sym ((laws.items (drawing_at bytes) bytes input spelled).met.1 met) ∙ found))
 
 -- so what it accepts `audit` ends with Done
 pub accepted_is_audited : AnswerLaws → AcceptedIsAudited
@@ -228,6 +278,22 @@ recover_done_is_spelled laws bytes input done = of_first (first_fault ALL_LINES 
     of_first (Some refusal) is = absurd (of_refusal refusal is)
     of_first None is = of_drawing (drawing_at bytes) (laws.drawings.spelled bytes input.are is)
 
+-- and what Found of it means: whatever an input spells is rewritten or too large
+recover_found_means : AnswerLaws → (bytes : List ℕ) → IsInput bytes → (said (codes "recover") bytes).status ≡ Found → SpellsNone bytes
+recover_found_means laws bytes input found drawing spelled = of_test (nat_lt MOST_BYTES (size_of drawing)) refl
+  where
+    answers : (said (codes "recover") bytes).status ≡ (said (codes "rewrite") bytes).status
+    answers = ap (λ (a : Outcome). a.status) (laws.recover drawing bytes input spelled)
+
+    of_test : (test : Bool) → nat_lt MOST_BYTES (size_of drawing) ≡ test → ⊥
+    of_test false few =
+        let within : size_of drawing ≤ MOST_BYTES = grind (arith, nat_tests) in
+        done_is_not_found (sym (ap (λ (a : Outcome). a.status) (laws.rewrite drawing bytes input spelled within).answers) ∙ sym answers ∙ found)
+    of_test true many =
+        let over : MOST_BYTES < size_of drawing = grind (arith, nat_tests) in
+        let both : TooLarge (size_of drawing) ≡ Found = sym (ap (λ (a : Outcome). a.status) (laws.large drawing bytes input spelled over)) ∙ sym answers ∙ found in
+        absurd cc
+
 -- what is said by a word ends as its command does
 said_ends : (command : Command) (bytes : List ℕ) (status : Status) (answer : Outcome) → IsInput bytes → IsTrue (reads command) → answer ≡ outcome_within command bytes
     → (outcome_of (Some command) bytes).status ≡ status → answer.status ≡ status
@@ -242,9 +308,19 @@ all_lines_done laws command bytes is tries are done =
 -- and of each
 done_means : AnswerLaws → RecoverDoneIsSpelled → (command : Command) (bytes : List ℕ) → (IsTrue (reads command) → AreBytes bytes) → (outcome_of (Some command) bytes).status ≡ Done → MeansDone command bytes
 unfolding row_of
+done_means laws recovers Sections bytes are done =
+    let input = input_where Sections bytes Done refl (are refl) done_is_answered done in
+    let passes = no_line_fails Sections bytes Done done_is_answered (said_ends Sections bytes Done (outcome_within Sections bytes) input refl refl done) in
+    (header_at bytes, laws.parts.begins bytes (are refl) passes)
+done_means laws recovers Classes bytes are done =
+    let input = input_where Classes bytes Done refl (are refl) done_is_answered done in
+    passing_has_classes laws.parts bytes input
+    (no_line_fails Classes bytes Done done_is_answered (said_ends Classes bytes Done (outcome_within Classes bytes) input refl refl done))
 done_means laws recovers Show bytes are done = all_lines_done laws.drawings Show bytes refl refl (are refl) done
 done_means laws recovers Rewrite bytes are done = all_lines_done laws.drawings Rewrite bytes refl refl (are refl) done
-done_means laws recovers Appdata bytes are done = all_lines_done laws.drawings Appdata bytes refl refl (are refl) done
+done_means laws recovers Appdata bytes are done =
+    let input = input_where Appdata bytes Done refl (are refl) done_is_answered done in
+    appdata_done_means laws bytes input (said_ends Appdata bytes Done (said (codes "appdata") bytes) input refl (appdata_said bytes input) done)
 done_means laws recovers Carry bytes are done = all_lines_done laws.drawings Carry bytes refl refl (are refl) done
 done_means laws recovers Audit bytes are done =
     let input = input_where Audit bytes Done refl (are refl) done_is_answered done in
@@ -270,6 +346,15 @@ found_means laws Audit bytes are found =
 found_means laws Certify bytes are found =
     let input = input_where Certify bytes Found refl (are refl) found_is_answered found in
     audit_found_means laws bytes input (sym (certify_ends_as_audit laws bytes input) ∙ said_ends Certify bytes Found (said (codes "certify") bytes) input refl (certify_said bytes input) found)
+found_means laws Accept bytes are found =
+    let input = input_where Accept bytes Found refl (are refl) found_is_answered found in
+    accept_found_means laws bytes input (said_ends Accept bytes Found (said (codes "accept") bytes) input refl (accept_said bytes input) found)
+found_means laws Appdata bytes are found =
+    let input = input_where Appdata bytes Found refl (are refl) found_is_answered found in
+    appdata_found_means laws bytes input (said_ends Appdata bytes Found (said (codes "appdata") bytes) input refl (appdata_said bytes input) found)
+found_means laws Recover bytes are found =
+    let input = input_where Recover bytes Found refl (are refl) found_is_answered found in
+    recover_found_means laws bytes input (said_ends Recover bytes Found (said (codes "recover") bytes) input refl (recover_said bytes input) found)
 found_means laws command bytes are found = tt
 
 -- what a status means, by what Done and Found do

@@ -40,11 +40,11 @@ pub record PartLaws : Type 0 where
   pub cut : (place : ℕ) (content : List ℕ) (classes : List Class) → tried_classes place content ≡ Ok classes → AreClasses content classes
 
 -- each of these words names its command
-sections_said : (bytes : List ℕ) → IsInput bytes → said (codes "sections") bytes ≡ outcome_within Sections bytes
+pub sections_said : (bytes : List ℕ) → IsInput bytes → said (codes "sections") bytes ≡ outcome_within Sections bytes
 unfolding command_of reading_of READERS row_of
 sections_said bytes input = of_input Sections bytes input refl
 
-classes_said : (bytes : List ℕ) → IsInput bytes → said (codes "classes") bytes ≡ outcome_within Classes bytes
+pub classes_said : (bytes : List ℕ) → IsInput bytes → said (codes "classes") bytes ≡ outcome_within Classes bytes
 unfolding command_of reading_of READERS row_of
 classes_said bytes input = of_input Classes bytes input refl
 
@@ -111,7 +111,7 @@ classes_prints_classes laws classes bytes input has =
     ∙ ap (λ (tried : Tried (List Class)). printed (classes_text (result_unwrap_or tried []))) (classes_are_tried laws classes bytes has)
 
 -- where no line fails an input has classes
-passing_has_classes : PartLaws → (bytes : List ℕ) → IsInput bytes → first_fault (lines_of Classes) bytes ≡ None → (classes : List Class) × HasClasses bytes classes
+pub passing_has_classes : PartLaws → (bytes : List ℕ) → IsInput bytes → first_fault (lines_of Classes) bytes ≡ None → (classes : List Class) × HasClasses bytes classes
 unfolding classes_section_row classes_row classes_tried row_of
 passing_has_classes laws bytes input holds =
     let parts = rows_both HEADER_LINES (classes_section_row ∷ classes_row ∷ []) bytes holds in

@@ -92,17 +92,22 @@ pub fn outcome_laws()
     acceptance_laws();
 }
 
-/// What a status of a command says of an input of at most 32 MiB, whatever it is. `show`, `rewrite`, `carry`, `appdata` and `recover` end
-/// with Done only where it spells a drawing, and that of `recover` is the one that is written. `audit` and `certify` end alike: with Done
-/// only where it spells a drawing whose references hold together, and with Found only where it spells another. `accept` ends with Done only
+/// What a status of a command says of an input of at most 32 MiB, whatever it is. `sections` ends with Done only where it begins with a file
+/// header, and `classes` where it has classes. `show`, `rewrite`, `carry`, `appdata` and `recover` end with Done only where it spells a
+/// drawing: that of `recover` is the one that is written, and the references in the extended data of that of `appdata` lead somewhere.
+/// With Found `appdata` ends only where they don't, and `recover` only where it spells none. `audit` and `certify` end alike: with Done only
+/// where it spells a drawing whose references hold together, and with Found only where it spells another. `accept` ends with Done only
 /// where it is a certificate and after it a drawing, of whose objects that is one, and whose references hold together: `audit` of what
-/// stands after the certificate ends with Done too.
+/// stands after the certificate ends with Done too; and with Found only where it isn't one of them.
 pub fn status_laws()
     ensures means { StatusesMean }
     ensures recovered { RecoverDoneIsSpelled }
     ensures alike { CertifyEndsAsAudit }
     ensures audited { AcceptedIsAudited }
 {
+    file_header_laws();
+    framed_laws();
+    classes_laws();
     drawing_laws();
     answer_laws();
     auditable_laws();
