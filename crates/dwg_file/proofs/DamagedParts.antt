@@ -91,6 +91,7 @@ else_is_same carried drawing bytes earlier frame later kept is small whole damag
       header = stays 0 (variables_place drawing) (omega arith) (omega (arith, size)) (inl (omega (arith, ahead, among.from)));
       variables = stays (variables_place drawing) (classes_place drawing) (omega arith) (omega (arith, size)) (inl (omega (arith, ahead, among.from)));
       classes = stays (classes_place drawing) (preview_place drawing) (omega arith) (omega (arith, size)) (inl (omega (arith, ahead, among.from)));
+      preview = stays (preview_place drawing) (objects_place_with carried drawing) (omega arith) (omega (arith, size)) (inl (omega (arith, ahead, among.from)));
       mapped = stays (map_place_with carried drawing) (others_place_with carried drawing) (omega arith) (omega (arith, size)) (inr (omega (arith, past, among.to)));
       others = stays (others_place_with carried drawing) (size_with carried drawing) (omega arith) (omega (arith, size)) (inr (omega (arith, past, among.to)));
       before = before_same carried drawing bytes from to splice frame.pair.place ahead earlier orders.0 among.before;

@@ -8,7 +8,7 @@ use Rattle.dwg_check.specs.ShortDamage.{DifferShortly}
 use Rattle.dwg_grammar.specs.ModularCodes.{ms}
 use Rattle.dwg_object.specs.Frames.{FrameHolds}
 use Rattle.dwg_object.specs.FrameLines.{frame_refusal}
-use Rattle.dwg_file.specs.Canonical.{Carried, IsCarried, canonical_with, classes_place, map_place_with, others_place_with, preview_place, size_with, variables_place}
+use Rattle.dwg_file.specs.Canonical.{Carried, IsCarried, canonical_with, classes_place, map_place_with, objects_place_with, others_place_with, preview_place, size_with, variables_place}
 use Rattle.dwg_file.specs.CanonicalFrames.{canonical_frames_with}
 use Rattle.dwg_file.specs.CanonicalBytes.{HasPart}
 use Rattle.dwg_file.specs.Contents.{Contents}
@@ -36,12 +36,13 @@ DamagedFrameFails =
     → canonical_frames_with carried drawing ≡ earlier ++ frame ∷ later → IsDamagedShortly carried drawing frame bytes
     → (end : ℕ) → FrameHolds bytes frame.pair.place frame.pair.handle end → ⊥
 
--- an input is as long as the canonical file, and has as it is there all but one frame: header, framed sections, map pages, unknown sections, and the frames before that one and after it
+-- an input is as long as the canonical file, and has as it is there all but one frame: header, framed sections, preview, map pages, unknown sections, and the frames before that one and after it
 pub record ElseIsSame (carried : Carried) (drawing : Contents) (bytes : List ℕ) (earlier later : List PairFrame) : Type 0 where
   pub long : length bytes ≡ length (canonical_with carried drawing)
   pub header : HasPart carried drawing bytes 0 (variables_place drawing)
   pub variables : HasPart carried drawing bytes (variables_place drawing) (classes_place drawing)
   pub classes : HasPart carried drawing bytes (classes_place drawing) (preview_place drawing)
+  pub preview : HasPart carried drawing bytes (preview_place drawing) (objects_place_with carried drawing)
   pub mapped : HasPart carried drawing bytes (map_place_with carried drawing) (others_place_with carried drawing)
   pub others : HasPart carried drawing bytes (others_place_with carried drawing) (size_with carried drawing)
   pub before : AllByRecursion (λ (one : PairFrame). HasPart carried drawing bytes one.pair.place one.end) earlier

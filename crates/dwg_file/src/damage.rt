@@ -7,8 +7,8 @@ use dwg_sections::{file_header_laws, framed_laws};
 
 /// What a change of one byte, or of two neighbouring ones, in the body and the check word of one object's frame does to the
 /// canonical file of a valid drawing, with any preview: the input is refused for the check word of that frame and for nothing before, and no
-/// frame with its pair's handle stands at its place. The file header, both framed sections, the map, the unknown sections
-/// and each other frame are as they were.
+/// frame with its pair's handle stands at its place. The file header, both framed sections, the preview, the map, the
+/// unknown sections and each other frame are as they were.
 pub fn short_damage_laws()
     ensures refused { ShortDamageIsRefused }
     ensures frame { DamagedFrameFails }

@@ -1,5 +1,6 @@
 //! Laws of the canonical file, as the contract of a function without code of its own.
 
+ghost use Rattle.dwg_file.specs.Canonical.{IsCarried, NO_PICTURE};
 ghost use Rattle.dwg_file.specs.CanonicalLaws.{CarryingSpells, CarryingIsCounted, CarryingSpellsNoOther, CarryingIsDoneOnce, PreviewIsCarried, NoneIsEmpty, CanonicalSpells, CanonicalIsCounted, CanonicalSpellsNoOther, CanonicalGivesDrawing, CanonicalIsRead, RewritingIsDoneOnce};
 
 use crate::laws::drawing_laws;
@@ -20,7 +21,8 @@ pub fn canonical_laws()
 
 /// What holds of the canonical file that carries a preview, where the drawing is valid and the file has at most `LIMIT` bytes: it
 /// spells the drawing and no other, has the size that is counted, and is bytes. The preview stands where the header says, with the
-/// places of its pictures moved there; carrying it once more gives the same file. Without one it has no entry.
+/// places of its pictures moved there; carrying it once more gives the same file. What stands where there is none can be carried, and
+/// has no entry.
 pub fn carrying_laws()
     ensures spells { CarryingSpells }
     ensures no_other { CarryingSpellsNoOther }
@@ -28,6 +30,7 @@ pub fn carrying_laws()
     ensures preview { PreviewIsCarried }
     ensures once { CarryingIsDoneOnce }
     ensures none { NoneIsEmpty }
+    ensures no_picture { IsCarried NO_PICTURE }
 {
     drawing_laws();
 }

@@ -1,5 +1,5 @@
 use Rattle.dwg_file.proofs.CanonicalLaws.{carrying_spells, carrying_is_counted, carrying_spells_no_other, carrying_is_done_once, preview_is_carried}
-use Rattle.dwg_file.proofs.CanonicalParts.{none_is_empty}
+use Rattle.dwg_file.proofs.CanonicalParts.{no_picture, none_is_empty}
 use Rattle.dwg_file.proofs.written_laws.carrying_laws.Goals as goal
 
 pub returns-clause-spells : goal.returns-clause-spells
@@ -19,3 +19,6 @@ returns-clause-once c = carrying_is_done_once
 
 pub returns-clause-none : goal.returns-clause-none
 returns-clause-none c = none_is_empty
+
+pub returns-clause-no_picture : goal.returns-clause-no_picture
+returns-clause-no_picture c = no_picture
