@@ -6,17 +6,20 @@ from __future__ import annotations
 import contextlib
 import os
 import random
+import re
 import resource
 import signal
 import sqlite3
 from concurrent.futures import ThreadPoolExecutor
+from itertools import zip_longest
 from pathlib import Path
 from typing import Any, Dict, Iterator
 
 from commands import (
-    DAMAGED, FAILURE, INTERRUPTED, PATIENCE, REFUSED, SOUND, UNSOUND, Commands, Ran, answer, end,
+    DAMAGED, FAILURE, INTERRUPTED, NOT_AS_KEPT, PATIENCE, REFUSED, SOUND, UNSOUND, Commands, Ran,
+    answer, end,
 )  # fmt: skip
-from drawings import renamed, spoiled
+from drawings import flipped, renamed, spoiled
 
 DRAWING = answer("make", "1", "7").stdout
 
@@ -241,6 +244,21 @@ class Stores(Counted):
         if kept.status not in REFUSED:
             self.assertEqual((kept.out, after.out), (self.kept.out, self.exported), (index, kept))
         return any(is_told)
+
+    def test_a_row_whose_text_is_no_text_is_dropped_alone(self) -> None:
+        """One flipped bit makes it no UTF-8: in what a content is, in what a file had."""
+        data, lines = self.store.read_bytes(), self.exported.splitlines(keepends=True)
+        places = [one.start() for one in re.finditer(lines[3].split()[0], data)]
+        for place, verdict in zip_longest(places, ("same", "new")):
+            path = self.file("other", flipped(data, place, 0x80))
+            ran = self.check("verify", path, "archive")
+            expected = {**dict.fromkeys(self.kept.verdicts, "same"), "3.dwg": verdict}
+            self.assertEqual((ran.verdicts, ran.status), (expected, NOT_AS_KEPT))
+            self.assertIn("1 damaged row is dropped", ran.said)
+            left = [line for line in lines if verdict == "same" or b" 3.dwg" not in line]
+            self.assertEqual(self.check("export", path).out, b"".join(left))
+            self.assertEqual(self.check("keep", path, "archive").out, self.kept.out)
+            self.assertEqual(self.check("export", path).out, self.exported)
 
     def test_no_other_value_is_taken_for_true(self) -> None:
         """Of each column of each table, as a disk may change it that keeps its own sums."""

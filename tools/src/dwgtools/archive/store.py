@@ -146,13 +146,14 @@ class Store:
         """Tells faults of SQLite in words that say what to do."""
         try:
             yield
-        except sqlite3.Error as fault:
+        # (of a damaged schema sqlite3 would tell a name that is no UTF-8)
+        except (sqlite3.Error, UnicodeError) as fault:
             why = str(fault)
             if "locked" in why or "busy" in why:
                 why = "another run uses it; try again when that has ended"
             elif "not a database" in why:
                 why = "no store of dwg-check; name another file"
-            elif "malformed" in why or isinstance(fault, sqlite3.ProgrammingError):
+            elif "malformed" in why or isinstance(fault, (sqlite3.ProgrammingError, UnicodeError)):
                 why = DAMAGED
             elif "full" in why or "I/O" in why:
                 why = f"its disk is full or fails ({why}); what was kept before stays"
@@ -319,4 +320,7 @@ def _is_journal(path: str) -> bool:
 def _database(path: str) -> sqlite3.Connection:
     """Opens a database that stands, of whatever name."""
     name = "".join(f"%{byte:02x}" for byte in os.fsencode(os.path.abspath(path)))
-    return sqlite3.connect(f"file:{name}?mode=rw", uri=True, timeout=0, isolation_level=None)
+    opened = sqlite3.connect(f"file:{name}?mode=rw", uri=True, timeout=0, isolation_level=None)
+    # (what is no UTF-8 is damaged, as the sum of its row says)
+    opened.text_factory = lambda data: data.decode("utf-8", "surrogateescape")
+    return opened
